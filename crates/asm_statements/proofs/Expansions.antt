@@ -9,6 +9,7 @@ use Rattle.formats.specs.Fields.{signed}
 use Rattle.formats.specs.Meaning.{Means}
 use Rattle.formats.specs.declared.instr.Instr.{Instr}
 use Rattle.formats.specs.declared.instr.Instr.TheVariants as instr
+use Rattle.formats.specs.declared.operators.ImmediateOperator.TheVariants as immediate
 use Rattle.asm_statements.specs.Encoding.{complement, word_of}
 use Rattle.asm_statements.specs.Expansion.{immediate_of, branch_offset_of, jump_offset_of, upper_of, amount_of, modulo_word, low_part, high_part, register_instr, immediate_instr, shift_instr, load_instr, store_instr, branch_instr, upper_instr, unary_instr, plain_instr, link_register, long_expansion, fitting_expansion, li_expansion, la_expansion, written, expansion_of}
 use Rattle.asm_statements.specs.declared.mnemonic.Mnemonic.{Mnemonic}
@@ -211,7 +212,7 @@ one-meant f None e h is = cc
 
 long-meant : (rd u : ℕ) → rd < 32 → AreMeant (long_expansion rd u)
 long-meant rd u a =
-    elim (u % 2 ^ 12 == 0) as (λ b. AreMeant (if b then One (instr.Lui rd (high_part u)) else Two (instr.Lui rd (high_part u)) (instr.Addi rd rd (low_part u)))) [
+    elim (u % 2 ^ 12 == 0) as (λ b. AreMeant (if b then One (instr.Lui rd (high_part u)) else Two (instr.Lui rd (high_part u)) (instr.Immediate immediate.Addi rd rd (low_part u)))) [
       | true ↦ upper-meant Lui rd (high_part u) a (high-below u)
       | false ↦ (upper-meant Lui rd (high_part u) a (high-below u), immediate-meant Addi rd rd (low_part u) a a (low_held u))
     ]

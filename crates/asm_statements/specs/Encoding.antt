@@ -1,6 +1,7 @@
 -- The word of each instruction (RISC-V Unprivileged ISA 20191213, chapter 24); of FENCE the one of all accesses, and of
 -- FENCE.I the one whose unused fields are 0.
 use Rattle.std.specs.Prelude.{ℕ, ℤ, pos, negsuc, ◌+◌, ◌-◌, ◌*◌, ◌/◌, ◌%◌, ◌^◌}
+use Rattle.formats.specs.Table.{branch_row, load_row, store_row, immediate_row, shift_row, register_row}
 use Rattle.formats.specs.declared.instr.Instr.{Instr}
 use Rattle.formats.specs.declared.instr.Instr.TheVariants as instr
 
@@ -56,47 +57,12 @@ word_of (instr.Lui rd imm) = u_word 0b0110111 rd imm
 word_of (instr.Auipc rd imm) = u_word 0b0010111 rd imm
 word_of (instr.Jal rd offset) = j_word rd offset
 word_of (instr.Jalr rd rs1 imm) = i_word 0b1100111 0b000 rd rs1 imm
-word_of (instr.Beq rs1 rs2 offset) = b_word 0b000 rs1 rs2 offset
-word_of (instr.Bne rs1 rs2 offset) = b_word 0b001 rs1 rs2 offset
-word_of (instr.Blt rs1 rs2 offset) = b_word 0b100 rs1 rs2 offset
-word_of (instr.Bge rs1 rs2 offset) = b_word 0b101 rs1 rs2 offset
-word_of (instr.Bltu rs1 rs2 offset) = b_word 0b110 rs1 rs2 offset
-word_of (instr.Bgeu rs1 rs2 offset) = b_word 0b111 rs1 rs2 offset
-word_of (instr.Lb rd rs1 imm) = i_word 0b0000011 0b000 rd rs1 imm
-word_of (instr.Lh rd rs1 imm) = i_word 0b0000011 0b001 rd rs1 imm
-word_of (instr.Lw rd rs1 imm) = i_word 0b0000011 0b010 rd rs1 imm
-word_of (instr.Lbu rd rs1 imm) = i_word 0b0000011 0b100 rd rs1 imm
-word_of (instr.Lhu rd rs1 imm) = i_word 0b0000011 0b101 rd rs1 imm
-word_of (instr.Sb rs1 rs2 imm) = s_word 0b000 rs1 rs2 imm
-word_of (instr.Sh rs1 rs2 imm) = s_word 0b001 rs1 rs2 imm
-word_of (instr.Sw rs1 rs2 imm) = s_word 0b010 rs1 rs2 imm
-word_of (instr.Addi rd rs1 imm) = i_word 0b0010011 0b000 rd rs1 imm
-word_of (instr.Slti rd rs1 imm) = i_word 0b0010011 0b010 rd rs1 imm
-word_of (instr.Sltiu rd rs1 imm) = i_word 0b0010011 0b011 rd rs1 imm
-word_of (instr.Xori rd rs1 imm) = i_word 0b0010011 0b100 rd rs1 imm
-word_of (instr.Ori rd rs1 imm) = i_word 0b0010011 0b110 rd rs1 imm
-word_of (instr.Andi rd rs1 imm) = i_word 0b0010011 0b111 rd rs1 imm
-word_of (instr.Slli rd rs1 amount) = shift_word 0b001 0b0000000 rd rs1 amount
-word_of (instr.Srli rd rs1 amount) = shift_word 0b101 0b0000000 rd rs1 amount
-word_of (instr.Srai rd rs1 amount) = shift_word 0b101 0b0100000 rd rs1 amount
-word_of (instr.Add rd rs1 rs2) = r_word 0b000 0b0000000 rd rs1 rs2
-word_of (instr.Sub rd rs1 rs2) = r_word 0b000 0b0100000 rd rs1 rs2
-word_of (instr.Sll rd rs1 rs2) = r_word 0b001 0b0000000 rd rs1 rs2
-word_of (instr.Slt rd rs1 rs2) = r_word 0b010 0b0000000 rd rs1 rs2
-word_of (instr.Sltu rd rs1 rs2) = r_word 0b011 0b0000000 rd rs1 rs2
-word_of (instr.Xor rd rs1 rs2) = r_word 0b100 0b0000000 rd rs1 rs2
-word_of (instr.Srl rd rs1 rs2) = r_word 0b101 0b0000000 rd rs1 rs2
-word_of (instr.Sra rd rs1 rs2) = r_word 0b101 0b0100000 rd rs1 rs2
-word_of (instr.Or rd rs1 rs2) = r_word 0b110 0b0000000 rd rs1 rs2
-word_of (instr.And rd rs1 rs2) = r_word 0b111 0b0000000 rd rs1 rs2
-word_of (instr.Mul rd rs1 rs2) = r_word 0b000 0b0000001 rd rs1 rs2
-word_of (instr.Mulh rd rs1 rs2) = r_word 0b001 0b0000001 rd rs1 rs2
-word_of (instr.Mulhsu rd rs1 rs2) = r_word 0b010 0b0000001 rd rs1 rs2
-word_of (instr.Mulhu rd rs1 rs2) = r_word 0b011 0b0000001 rd rs1 rs2
-word_of (instr.Div rd rs1 rs2) = r_word 0b100 0b0000001 rd rs1 rs2
-word_of (instr.Divu rd rs1 rs2) = r_word 0b101 0b0000001 rd rs1 rs2
-word_of (instr.Rem rd rs1 rs2) = r_word 0b110 0b0000001 rd rs1 rs2
-word_of (instr.Remu rd rs1 rs2) = r_word 0b111 0b0000001 rd rs1 rs2
+word_of (instr.Branch condition rs1 rs2 offset) = b_word (branch_row condition).funct3 rs1 rs2 offset
+word_of (instr.Load operator rd rs1 imm) = i_word 0b0000011 (load_row operator).funct3 rd rs1 imm
+word_of (instr.Store width rs1 rs2 imm) = s_word (store_row width).funct3 rs1 rs2 imm
+word_of (instr.Immediate operator rd rs1 imm) = i_word 0b0010011 (immediate_row operator).funct3 rd rs1 imm
+word_of (instr.Shift operator rd rs1 amount) = shift_word (shift_row operator).funct3 (shift_row operator).funct7 rd rs1 amount
+word_of (instr.Register operator rd rs1 rs2) = r_word (register_row operator).funct3 (register_row operator).funct7 rd rs1 rs2
 word_of instr.Fence = 0x0FF0000F
 word_of instr.FenceI = 0x0000100F
 word_of instr.Ecall = 0x00000073

@@ -5,6 +5,12 @@ use Rattle.std.specs.Int.{cast_signed, w32}
 use Rattle.formats.specs.Fields.{signed}
 use Rattle.formats.specs.declared.instr.Instr.{Instr}
 use Rattle.formats.specs.declared.instr.Instr.TheVariants as instr
+use Rattle.formats.specs.declared.operators.Arithmetic.TheVariants as register
+use Rattle.formats.specs.declared.operators.ImmediateOperator.TheVariants as immediate
+use Rattle.formats.specs.declared.operators.ShiftOperator.TheVariants as shift
+use Rattle.formats.specs.declared.operators.LoadOperator.TheVariants as load
+use Rattle.formats.specs.declared.operators.Condition.TheVariants as condition
+use Rattle.memory_model.specs.declared.access.Width.TheVariants as width
 use Rattle.asm_statements.specs.declared.mnemonic.Mnemonic.{Mnemonic}
 use Rattle.asm_statements.specs.declared.mnemonic.Mnemonic.TheVariants as form
 use Rattle.asm_statements.specs.declared.mnemonic.RegisterOp.{RegisterOp}
@@ -68,74 +74,74 @@ unfoldable pub high_part : ℕ → ℕ
 high_part u = modulo_word (pos u -ℤ low_part u) / 2 ^ 12
 
 abbrev pub register_instr : RegisterOp → ℕ → ℕ → ℕ → Instr
-register_instr Add rd rs1 rs2 = instr.Add rd rs1 rs2
-register_instr Sub rd rs1 rs2 = instr.Sub rd rs1 rs2
-register_instr Sll rd rs1 rs2 = instr.Sll rd rs1 rs2
-register_instr Slt rd rs1 rs2 = instr.Slt rd rs1 rs2
-register_instr Sltu rd rs1 rs2 = instr.Sltu rd rs1 rs2
-register_instr Xor rd rs1 rs2 = instr.Xor rd rs1 rs2
-register_instr Srl rd rs1 rs2 = instr.Srl rd rs1 rs2
-register_instr Sra rd rs1 rs2 = instr.Sra rd rs1 rs2
-register_instr Or rd rs1 rs2 = instr.Or rd rs1 rs2
-register_instr And rd rs1 rs2 = instr.And rd rs1 rs2
-register_instr Mul rd rs1 rs2 = instr.Mul rd rs1 rs2
-register_instr Mulh rd rs1 rs2 = instr.Mulh rd rs1 rs2
-register_instr Mulhsu rd rs1 rs2 = instr.Mulhsu rd rs1 rs2
-register_instr Mulhu rd rs1 rs2 = instr.Mulhu rd rs1 rs2
-register_instr Div rd rs1 rs2 = instr.Div rd rs1 rs2
-register_instr Divu rd rs1 rs2 = instr.Divu rd rs1 rs2
-register_instr Rem rd rs1 rs2 = instr.Rem rd rs1 rs2
-register_instr Remu rd rs1 rs2 = instr.Remu rd rs1 rs2
+register_instr Add rd rs1 rs2 = instr.Register register.Add rd rs1 rs2
+register_instr Sub rd rs1 rs2 = instr.Register register.Sub rd rs1 rs2
+register_instr Sll rd rs1 rs2 = instr.Register register.Sll rd rs1 rs2
+register_instr Slt rd rs1 rs2 = instr.Register register.Slt rd rs1 rs2
+register_instr Sltu rd rs1 rs2 = instr.Register register.Sltu rd rs1 rs2
+register_instr Xor rd rs1 rs2 = instr.Register register.Xor rd rs1 rs2
+register_instr Srl rd rs1 rs2 = instr.Register register.Srl rd rs1 rs2
+register_instr Sra rd rs1 rs2 = instr.Register register.Sra rd rs1 rs2
+register_instr Or rd rs1 rs2 = instr.Register register.Or rd rs1 rs2
+register_instr And rd rs1 rs2 = instr.Register register.And rd rs1 rs2
+register_instr Mul rd rs1 rs2 = instr.Register register.Mul rd rs1 rs2
+register_instr Mulh rd rs1 rs2 = instr.Register register.Mulh rd rs1 rs2
+register_instr Mulhsu rd rs1 rs2 = instr.Register register.Mulhsu rd rs1 rs2
+register_instr Mulhu rd rs1 rs2 = instr.Register register.Mulhu rd rs1 rs2
+register_instr Div rd rs1 rs2 = instr.Register register.Div rd rs1 rs2
+register_instr Divu rd rs1 rs2 = instr.Register register.Divu rd rs1 rs2
+register_instr Rem rd rs1 rs2 = instr.Register register.Rem rd rs1 rs2
+register_instr Remu rd rs1 rs2 = instr.Register register.Remu rd rs1 rs2
 
 abbrev pub immediate_instr : ImmediateOp → ℕ → ℕ → ℤ → Instr
-immediate_instr Addi rd rs1 imm = instr.Addi rd rs1 imm
-immediate_instr Slti rd rs1 imm = instr.Slti rd rs1 imm
-immediate_instr Sltiu rd rs1 imm = instr.Sltiu rd rs1 imm
-immediate_instr Xori rd rs1 imm = instr.Xori rd rs1 imm
-immediate_instr Ori rd rs1 imm = instr.Ori rd rs1 imm
-immediate_instr Andi rd rs1 imm = instr.Andi rd rs1 imm
+immediate_instr Addi rd rs1 imm = instr.Immediate immediate.Addi rd rs1 imm
+immediate_instr Slti rd rs1 imm = instr.Immediate immediate.Slti rd rs1 imm
+immediate_instr Sltiu rd rs1 imm = instr.Immediate immediate.Sltiu rd rs1 imm
+immediate_instr Xori rd rs1 imm = instr.Immediate immediate.Xori rd rs1 imm
+immediate_instr Ori rd rs1 imm = instr.Immediate immediate.Ori rd rs1 imm
+immediate_instr Andi rd rs1 imm = instr.Immediate immediate.Andi rd rs1 imm
 
 abbrev pub shift_instr : ShiftOp → ℕ → ℕ → ℕ → Instr
-shift_instr Slli rd rs1 amount = instr.Slli rd rs1 amount
-shift_instr Srli rd rs1 amount = instr.Srli rd rs1 amount
-shift_instr Srai rd rs1 amount = instr.Srai rd rs1 amount
+shift_instr Slli rd rs1 amount = instr.Shift shift.Slli rd rs1 amount
+shift_instr Srli rd rs1 amount = instr.Shift shift.Srli rd rs1 amount
+shift_instr Srai rd rs1 amount = instr.Shift shift.Srai rd rs1 amount
 
 abbrev pub load_instr : LoadOp → ℕ → ℕ → ℤ → Instr
 load_instr Jalr rd rs1 imm = instr.Jalr rd rs1 imm
-load_instr Lb rd rs1 imm = instr.Lb rd rs1 imm
-load_instr Lh rd rs1 imm = instr.Lh rd rs1 imm
-load_instr Lw rd rs1 imm = instr.Lw rd rs1 imm
-load_instr Lbu rd rs1 imm = instr.Lbu rd rs1 imm
-load_instr Lhu rd rs1 imm = instr.Lhu rd rs1 imm
+load_instr Lb rd rs1 imm = instr.Load load.Lb rd rs1 imm
+load_instr Lh rd rs1 imm = instr.Load load.Lh rd rs1 imm
+load_instr Lw rd rs1 imm = instr.Load load.Lw rd rs1 imm
+load_instr Lbu rd rs1 imm = instr.Load load.Lbu rd rs1 imm
+load_instr Lhu rd rs1 imm = instr.Load load.Lhu rd rs1 imm
 
 abbrev pub store_instr : StoreOp → ℕ → ℕ → ℤ → Instr
-store_instr Sb rs1 rs2 imm = instr.Sb rs1 rs2 imm
-store_instr Sh rs1 rs2 imm = instr.Sh rs1 rs2 imm
-store_instr Sw rs1 rs2 imm = instr.Sw rs1 rs2 imm
+store_instr Sb rs1 rs2 imm = instr.Store width.Byte rs1 rs2 imm
+store_instr Sh rs1 rs2 imm = instr.Store width.Half rs1 rs2 imm
+store_instr Sw rs1 rs2 imm = instr.Store width.Word rs1 rs2 imm
 
 abbrev pub branch_instr : BranchOp → ℕ → ℕ → ℤ → Instr
-branch_instr Beq rs1 rs2 offset = instr.Beq rs1 rs2 offset
-branch_instr Bne rs1 rs2 offset = instr.Bne rs1 rs2 offset
-branch_instr Blt rs1 rs2 offset = instr.Blt rs1 rs2 offset
-branch_instr Bge rs1 rs2 offset = instr.Bge rs1 rs2 offset
-branch_instr Bltu rs1 rs2 offset = instr.Bltu rs1 rs2 offset
-branch_instr Bgeu rs1 rs2 offset = instr.Bgeu rs1 rs2 offset
+branch_instr Beq rs1 rs2 offset = instr.Branch condition.Equal rs1 rs2 offset
+branch_instr Bne rs1 rs2 offset = instr.Branch condition.NotEqual rs1 rs2 offset
+branch_instr Blt rs1 rs2 offset = instr.Branch condition.Less rs1 rs2 offset
+branch_instr Bge rs1 rs2 offset = instr.Branch condition.NotLess rs1 rs2 offset
+branch_instr Bltu rs1 rs2 offset = instr.Branch condition.Below rs1 rs2 offset
+branch_instr Bgeu rs1 rs2 offset = instr.Branch condition.NotBelow rs1 rs2 offset
 
 abbrev pub upper_instr : UpperOp → ℕ → ℕ → Instr
 upper_instr Lui rd u = instr.Lui rd u
 upper_instr Auipc rd u = instr.Auipc rd u
 
 abbrev pub unary_instr : UnaryOp → ℕ → ℕ → Instr
-unary_instr Mv rd rs = instr.Addi rd rs (pos 0)
-unary_instr Not rd rs = instr.Xori rd rs (negsuc 0)
-unary_instr Neg rd rs = instr.Sub rd 0 rs
-unary_instr Seqz rd rs = instr.Sltiu rd rs (pos 1)
-unary_instr Snez rd rs = instr.Sltu rd 0 rs
-unary_instr Sltz rd rs = instr.Slt rd rs 0
-unary_instr Sgtz rd rs = instr.Slt rd 0 rs
+unary_instr Mv rd rs = instr.Immediate immediate.Addi rd rs (pos 0)
+unary_instr Not rd rs = instr.Immediate immediate.Xori rd rs (negsuc 0)
+unary_instr Neg rd rs = instr.Register register.Sub rd 0 rs
+unary_instr Seqz rd rs = instr.Immediate immediate.Sltiu rd rs (pos 1)
+unary_instr Snez rd rs = instr.Register register.Sltu rd 0 rs
+unary_instr Sltz rd rs = instr.Register register.Slt rd rs 0
+unary_instr Sgtz rd rs = instr.Register register.Slt rd 0 rs
 
 abbrev pub plain_instr : PlainOp → Instr
-plain_instr Nop = instr.Addi 0 0 (pos 0)
+plain_instr Nop = instr.Immediate immediate.Addi 0 0 (pos 0)
 plain_instr Ret = instr.Jalr 0 1 (pos 0)
 plain_instr Fence = instr.Fence
 plain_instr FenceI = instr.FenceI
@@ -148,10 +154,10 @@ link_register Ra = 1
 
 -- `li` of a word: its immediate as a signed number, if it fits; else its high part and, if it is not 0, its low part
 abbrev pub long_expansion : ℕ → ℕ → Expansion
-long_expansion rd u = if u % 2 ^ 12 == 0 then One (instr.Lui rd (high_part u)) else Two (instr.Lui rd (high_part u)) (instr.Addi rd rd (low_part u))
+long_expansion rd u = if u % 2 ^ 12 == 0 then One (instr.Lui rd (high_part u)) else Two (instr.Lui rd (high_part u)) (instr.Immediate immediate.Addi rd rd (low_part u))
 
 abbrev pub fitting_expansion : ℕ → ℕ → Option ℤ → Expansion
-fitting_expansion rd u (Some imm) = One (instr.Addi rd 0 imm)
+fitting_expansion rd u (Some imm) = One (instr.Immediate immediate.Addi rd 0 imm)
 fitting_expansion rd u None = long_expansion rd u
 
 abbrev pub li_expansion : ℕ → ℕ → Expansion
@@ -159,7 +165,7 @@ li_expansion rd u = fitting_expansion rd u (immediate_of (cast_signed w32 u))
 
 -- `la` of a distance from the instruction, always two
 abbrev pub la_expansion : ℕ → ℕ → Expansion
-la_expansion rd u = Two (instr.Auipc rd (high_part u)) (instr.Addi rd rd (low_part u))
+la_expansion rd u = Two (instr.Auipc rd (high_part u)) (instr.Immediate immediate.Addi rd rd (low_part u))
 
 -- the number that a value is, where it is no label
 abbrev pub written : Value → ℤ

@@ -13,7 +13,10 @@ use crate::mnemonic::{
     UpperOp,
 };
 use crate::operands::{Operands, Value};
-use formats::{Immediate, Instr, Reg};
+use formats::{
+    Arithmetic, Condition, Immediate, ImmediateOperator, Instr, LoadOperator, Reg, ShiftOperator,
+};
+use memory_model::Width;
 
 /// The instructions that one statement stands for.
 #[derive(Clone, Copy)]
@@ -89,7 +92,12 @@ fn load_word(rd: Reg, word: u32) -> Expansion
 {
     if let Some(imm) = immediate(i64::from(word.cast_signed())) {
         let rs1 = Reg::new(0);
-        return Expansion::One(Instr::Addi { rd, rs1, imm });
+        return Expansion::One(Instr::Immediate {
+            operator: ImmediateOperator::Addi,
+            rd,
+            rs1,
+            imm,
+        });
     }
     let imm = high_part(word);
     let high = Instr::Lui { rd, imm };
@@ -97,7 +105,15 @@ fn load_word(rd: Reg, word: u32) -> Expansion
         return Expansion::One(high);
     }
     let imm = low_part(word);
-    Expansion::Two(high, Instr::Addi { rd, rs1: rd, imm })
+    Expansion::Two(
+        high,
+        Instr::Immediate {
+            operator: ImmediateOperator::Addi,
+            rd,
+            rs1: rd,
+            imm,
+        },
+    )
 }
 
 /// `la` of a distance from the instruction, modulo 2^32.
@@ -107,31 +123,45 @@ fn load_address(rd: Reg, distance: u32) -> Expansion
     let imm = high_part(distance);
     let high = Instr::Auipc { rd, imm };
     let imm = low_part(distance);
-    Expansion::Two(high, Instr::Addi { rd, rs1: rd, imm })
+    Expansion::Two(
+        high,
+        Instr::Immediate {
+            operator: ImmediateOperator::Addi,
+            rd,
+            rs1: rd,
+            imm,
+        },
+    )
 }
 
 fn register_instr(op: RegisterOp, rd: Reg, rs1: Reg, rs2: Reg) -> Instr
     ensures { result ≡ register_instr op rd rs1 rs2 }
 {
-    match op {
-        RegisterOp::Add => Instr::Add { rd, rs1, rs2 },
-        RegisterOp::Sub => Instr::Sub { rd, rs1, rs2 },
-        RegisterOp::Sll => Instr::Sll { rd, rs1, rs2 },
-        RegisterOp::Slt => Instr::Slt { rd, rs1, rs2 },
-        RegisterOp::Sltu => Instr::Sltu { rd, rs1, rs2 },
-        RegisterOp::Xor => Instr::Xor { rd, rs1, rs2 },
-        RegisterOp::Srl => Instr::Srl { rd, rs1, rs2 },
-        RegisterOp::Sra => Instr::Sra { rd, rs1, rs2 },
-        RegisterOp::Or => Instr::Or { rd, rs1, rs2 },
-        RegisterOp::And => Instr::And { rd, rs1, rs2 },
-        RegisterOp::Mul => Instr::Mul { rd, rs1, rs2 },
-        RegisterOp::Mulh => Instr::Mulh { rd, rs1, rs2 },
-        RegisterOp::Mulhsu => Instr::Mulhsu { rd, rs1, rs2 },
-        RegisterOp::Mulhu => Instr::Mulhu { rd, rs1, rs2 },
-        RegisterOp::Div => Instr::Div { rd, rs1, rs2 },
-        RegisterOp::Divu => Instr::Divu { rd, rs1, rs2 },
-        RegisterOp::Rem => Instr::Rem { rd, rs1, rs2 },
-        RegisterOp::Remu => Instr::Remu { rd, rs1, rs2 },
+    let operator = match op {
+        RegisterOp::Add => Arithmetic::Add,
+        RegisterOp::Sub => Arithmetic::Sub,
+        RegisterOp::Sll => Arithmetic::Sll,
+        RegisterOp::Slt => Arithmetic::Slt,
+        RegisterOp::Sltu => Arithmetic::Sltu,
+        RegisterOp::Xor => Arithmetic::Xor,
+        RegisterOp::Srl => Arithmetic::Srl,
+        RegisterOp::Sra => Arithmetic::Sra,
+        RegisterOp::Or => Arithmetic::Or,
+        RegisterOp::And => Arithmetic::And,
+        RegisterOp::Mul => Arithmetic::Mul,
+        RegisterOp::Mulh => Arithmetic::Mulh,
+        RegisterOp::Mulhsu => Arithmetic::Mulhsu,
+        RegisterOp::Mulhu => Arithmetic::Mulhu,
+        RegisterOp::Div => Arithmetic::Div,
+        RegisterOp::Divu => Arithmetic::Divu,
+        RegisterOp::Rem => Arithmetic::Rem,
+        RegisterOp::Remu => Arithmetic::Remu,
+    };
+    Instr::Register {
+        operator,
+        rd,
+        rs1,
+        rs2,
     }
 }
 
@@ -139,69 +169,94 @@ fn immediate_instr(op: ImmediateOp, rd: Reg, rs1: Reg, number: i64) -> Option<Ex
     ensures { result ≡ option_map (λ imm. One (immediate_instr op rd rs1 imm)) (immediate_of number) }
 {
     let imm = immediate(number)?;
-    let instr = match op {
-        ImmediateOp::Addi => Instr::Addi { rd, rs1, imm },
-        ImmediateOp::Slti => Instr::Slti { rd, rs1, imm },
-        ImmediateOp::Sltiu => Instr::Sltiu { rd, rs1, imm },
-        ImmediateOp::Xori => Instr::Xori { rd, rs1, imm },
-        ImmediateOp::Ori => Instr::Ori { rd, rs1, imm },
-        ImmediateOp::Andi => Instr::Andi { rd, rs1, imm },
+    let operator = match op {
+        ImmediateOp::Addi => ImmediateOperator::Addi,
+        ImmediateOp::Slti => ImmediateOperator::Slti,
+        ImmediateOp::Sltiu => ImmediateOperator::Sltiu,
+        ImmediateOp::Xori => ImmediateOperator::Xori,
+        ImmediateOp::Ori => ImmediateOperator::Ori,
+        ImmediateOp::Andi => ImmediateOperator::Andi,
     };
-    Some(Expansion::One(instr))
+    Some(Expansion::One(Instr::Immediate {
+        operator,
+        rd,
+        rs1,
+        imm,
+    }))
 }
 
 fn shift_instr(op: ShiftOp, rd: Reg, rs1: Reg, number: i64) -> Option<Expansion>
     ensures { result ≡ option_map (λ amount. One (shift_instr op rd rs1 amount)) (amount_of number) }
 {
     let amount = amount(number)?;
-    let instr = match op {
-        ShiftOp::Slli => Instr::Slli { rd, rs1, amount },
-        ShiftOp::Srli => Instr::Srli { rd, rs1, amount },
-        ShiftOp::Srai => Instr::Srai { rd, rs1, amount },
+    let operator = match op {
+        ShiftOp::Slli => ShiftOperator::Slli,
+        ShiftOp::Srli => ShiftOperator::Srli,
+        ShiftOp::Srai => ShiftOperator::Srai,
     };
-    Some(Expansion::One(instr))
+    Some(Expansion::One(Instr::Shift {
+        operator,
+        rd,
+        rs1,
+        amount,
+    }))
 }
 
 fn load_instr(op: LoadOp, rd: Reg, rs1: Reg, number: i64) -> Option<Expansion>
     ensures { result ≡ option_map (λ imm. One (load_instr op rd rs1 imm)) (immediate_of number) }
 {
     let imm = immediate(number)?;
-    let instr = match op {
-        LoadOp::Jalr => Instr::Jalr { rd, rs1, imm },
-        LoadOp::Lb => Instr::Lb { rd, rs1, imm },
-        LoadOp::Lh => Instr::Lh { rd, rs1, imm },
-        LoadOp::Lw => Instr::Lw { rd, rs1, imm },
-        LoadOp::Lbu => Instr::Lbu { rd, rs1, imm },
-        LoadOp::Lhu => Instr::Lhu { rd, rs1, imm },
+    let operator = match op {
+        LoadOp::Jalr => return Some(Expansion::One(Instr::Jalr { rd, rs1, imm })),
+        LoadOp::Lb => LoadOperator::Lb,
+        LoadOp::Lh => LoadOperator::Lh,
+        LoadOp::Lw => LoadOperator::Lw,
+        LoadOp::Lbu => LoadOperator::Lbu,
+        LoadOp::Lhu => LoadOperator::Lhu,
     };
-    Some(Expansion::One(instr))
+    Some(Expansion::One(Instr::Load {
+        operator,
+        rd,
+        rs1,
+        imm,
+    }))
 }
 
 fn store_instr(op: StoreOp, rs1: Reg, rs2: Reg, number: i64) -> Option<Expansion>
     ensures { result ≡ option_map (λ imm. One (store_instr op rs1 rs2 imm)) (immediate_of number) }
 {
     let imm = immediate(number)?;
-    let instr = match op {
-        StoreOp::Sb => Instr::Sb { rs1, rs2, imm },
-        StoreOp::Sh => Instr::Sh { rs1, rs2, imm },
-        StoreOp::Sw => Instr::Sw { rs1, rs2, imm },
+    let width = match op {
+        StoreOp::Sb => Width::Byte,
+        StoreOp::Sh => Width::Half,
+        StoreOp::Sw => Width::Word,
     };
-    Some(Expansion::One(instr))
+    Some(Expansion::One(Instr::Store {
+        width,
+        rs1,
+        rs2,
+        imm,
+    }))
 }
 
 fn branch_instr(op: BranchOp, rs1: Reg, rs2: Reg, number: i64) -> Option<Expansion>
     ensures { result ≡ option_map (λ offset. One (branch_instr op rs1 rs2 offset)) (branch_offset_of number) }
 {
     let offset = branch_offset(number)?;
-    let instr = match op {
-        BranchOp::Beq => Instr::Beq { rs1, rs2, offset },
-        BranchOp::Bne => Instr::Bne { rs1, rs2, offset },
-        BranchOp::Blt => Instr::Blt { rs1, rs2, offset },
-        BranchOp::Bge => Instr::Bge { rs1, rs2, offset },
-        BranchOp::Bltu => Instr::Bltu { rs1, rs2, offset },
-        BranchOp::Bgeu => Instr::Bgeu { rs1, rs2, offset },
+    let condition = match op {
+        BranchOp::Beq => Condition::Equal,
+        BranchOp::Bne => Condition::NotEqual,
+        BranchOp::Blt => Condition::Less,
+        BranchOp::Bge => Condition::NotLess,
+        BranchOp::Bltu => Condition::Below,
+        BranchOp::Bgeu => Condition::NotBelow,
     };
-    Some(Expansion::One(instr))
+    Some(Expansion::One(Instr::Branch {
+        condition,
+        rs1,
+        rs2,
+        offset,
+    }))
 }
 
 fn upper_instr(op: UpperOp, rd: Reg, number: i64) -> Option<Expansion>
@@ -228,37 +283,44 @@ fn unary_instr(op: UnaryOp, rd: Reg, rs: Reg) -> Instr
 {
     let zero = Reg::new(0);
     match op {
-        UnaryOp::Mv => Instr::Addi {
+        UnaryOp::Mv => Instr::Immediate {
+            operator: ImmediateOperator::Addi,
             rd,
             rs1: rs,
             imm: Immediate::new(0),
         },
-        UnaryOp::Not => Instr::Xori {
+        UnaryOp::Not => Instr::Immediate {
+            operator: ImmediateOperator::Xori,
             rd,
             rs1: rs,
             imm: Immediate::new(-1),
         },
-        UnaryOp::Neg => Instr::Sub {
+        UnaryOp::Neg => Instr::Register {
+            operator: Arithmetic::Sub,
             rd,
             rs1: zero,
             rs2: rs,
         },
-        UnaryOp::Seqz => Instr::Sltiu {
+        UnaryOp::Seqz => Instr::Immediate {
+            operator: ImmediateOperator::Sltiu,
             rd,
             rs1: rs,
             imm: Immediate::new(1),
         },
-        UnaryOp::Snez => Instr::Sltu {
+        UnaryOp::Snez => Instr::Register {
+            operator: Arithmetic::Sltu,
             rd,
             rs1: zero,
             rs2: rs,
         },
-        UnaryOp::Sltz => Instr::Slt {
+        UnaryOp::Sltz => Instr::Register {
+            operator: Arithmetic::Slt,
             rd,
             rs1: rs,
             rs2: zero,
         },
-        UnaryOp::Sgtz => Instr::Slt {
+        UnaryOp::Sgtz => Instr::Register {
+            operator: Arithmetic::Slt,
             rd,
             rs1: zero,
             rs2: rs,
@@ -272,7 +334,8 @@ fn plain_instr(op: PlainOp) -> Instr
     let zero = Reg::new(0);
     let imm = Immediate::new(0);
     match op {
-        PlainOp::Nop => Instr::Addi {
+        PlainOp::Nop => Instr::Immediate {
+            operator: ImmediateOperator::Addi,
             rd: zero,
             rs1: zero,
             imm,

@@ -7,6 +7,7 @@ use Rattle.std.proofs.lemmas.Int.{ints, of_z-to_z}
 use Rattle.std.proofs.lemmas.Bool.Decides.{nat_tests}
 use Rattle.formats.specs.Fields.{signed}
 use Rattle.formats.specs.declared.instr.Instr.TheVariants as instr
+use Rattle.formats.specs.declared.operators.ImmediateOperator.TheVariants.{Addi}
 use Rattle.machine_model.specs.Effects.{ArchitecturalState, reg, put, effect}
 use Rattle.machine_model.specs.Arithmetic.{as_word, sum}
 use Rattle.asm_statements.specs.Expansion.{immediate_of, modulo_word, low_part, high_part, li_expansion, la_expansion, fitting_expansion, long_expansion, word_count}
@@ -51,13 +52,13 @@ pc-twice pc = omega arith
 
 -- an `addi` after an instruction that set its register
 added : (h : ArchitecturalState) (rd x value : ℕ) (z : ℤ) → length h.registers ≡ 32 → rd < 32 → sum x (as_word z) ≡ value
-    → carried_out (instr.Addi rd rd z ∷ []) (record { registers = put h.registers rd x; pc = (h.pc + 4) % 2 ^ 32; memory = h.memory }) ≡ Some (with_value h rd value 2)
+    → carried_out (instr.Immediate Addi rd rd z ∷ []) (record { registers = put h.registers rd x; pc = (h.pc + 4) % 2 ^ 32; memory = h.memory }) ≡ Some (with_value h rd value 2)
 unfolding effect
 added h rd x value z size below is =
     let registers : put (put h.registers rd x) rd (sum (slice_index (put h.registers rd x) rd) (as_word z)) ≡ put h.registers rd value = set-again h.registers rd x value z (omega (arith, size)) is in
     λ i. Some (record { registers = registers i; pc = pc-twice h.pc i; memory = h.memory })
 
-li-fitting : (h : ArchitecturalState) (rd u : ℕ) (imm : ℤ) → reg h 0 ≡ 0 → u < 2 ^ 32 → immediate_of (cast_signed w32 u) ≡ Some imm → carried_out (instr.Addi rd 0 imm ∷ []) h ≡ Some (with_value h rd u 1)
+li-fitting : (h : ArchitecturalState) (rd u : ℕ) (imm : ℤ) → reg h 0 ≡ 0 → u < 2 ^ 32 → immediate_of (cast_signed w32 u) ≡ Some imm → carried_out (instr.Immediate Addi rd 0 imm ∷ []) h ≡ Some (with_value h rd u 1)
 unfolding effect
 li-fitting h rd u imm none small fits =
     let word : as_word imm ≡ u = ap as_word (immediate-same (cast_signed w32 u) imm fits) ∙ of_z-to_z w32 u small in
@@ -78,15 +79,15 @@ li-whole : (h : ArchitecturalState) (rd u : ℕ) → u % 2 ^ 12 ≡ 0 → u < 2 
 unfolding effect
 li-whole h rd u none small = ap (λ (n : ℕ). Some (record { registers = put h.registers rd n; pc = (h.pc + 4) % 2 ^ 32; memory = h.memory })) (high-whole u none small)
 
-li-parts : (h : ArchitecturalState) (rd u : ℕ) → length h.registers ≡ 32 → rd < 32 → u < 2 ^ 32 → carried_out (instr.Lui rd (high_part u) ∷ instr.Addi rd rd (low_part u) ∷ []) h ≡ Some (with_value h rd u 2)
+li-parts : (h : ArchitecturalState) (rd u : ℕ) → length h.registers ≡ 32 → rd < 32 → u < 2 ^ 32 → carried_out (instr.Lui rd (high_part u) ∷ instr.Immediate Addi rd rd (low_part u) ∷ []) h ≡ Some (with_value h rd u 2)
 unfolding effect
 li-parts h rd u size below small = added h rd (high_part u * 2 ^ 12) u (low_part u) size below (let parts : (high_part u * 2 ^ 12 + as_word (low_part u)) % 2 ^ 32 ≡ u % 2 ^ 32 = parts-sum u in omega arith)
 
 li-long : (h : ArchitecturalState) (rd u : ℕ) → length h.registers ≡ 32 → rd < 32 → u < 2 ^ 32 → carried_out (instructions_of (long_expansion rd u)) h ≡ Some (with_value h rd u (word_count (long_expansion rd u)))
 li-long h rd u size below small = by_test (u % 2 ^ 12 == 0) refl
   where
-    by_test : (b : Bool) → (u % 2 ^ 12 == 0) ≡ b → carried_out (instructions_of (if b then One (instr.Lui rd (high_part u)) else Two (instr.Lui rd (high_part u)) (instr.Addi rd rd (low_part u)))) h
-        ≡ Some (with_value h rd u (word_count (if b then One (instr.Lui rd (high_part u)) else Two (instr.Lui rd (high_part u)) (instr.Addi rd rd (low_part u)))))
+    by_test : (b : Bool) → (u % 2 ^ 12 == 0) ≡ b → carried_out (instructions_of (if b then One (instr.Lui rd (high_part u)) else Two (instr.Lui rd (high_part u)) (instr.Immediate Addi rd rd (low_part u)))) h
+        ≡ Some (with_value h rd u (word_count (if b then One (instr.Lui rd (high_part u)) else Two (instr.Lui rd (high_part u)) (instr.Immediate Addi rd rd (low_part u)))))
     by_test true is = li-whole h rd u (grind (arith, nat_tests)) small
     by_test false is = li-parts h rd u size below small
 

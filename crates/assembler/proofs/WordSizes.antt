@@ -7,6 +7,7 @@ use Rattle.formats.specs.Fields.{field, rd_of, rs1_of, rs2_of, immediate_u, imme
 use Rattle.formats.specs.Meaning.{Means, IsU, IsI, IsS, IsB, IsShift, IsR}
 use Rattle.formats.specs.declared.instr.Instr.{Instr}
 use Rattle.formats.specs.declared.instr.Instr.TheVariants as instr
+use Rattle.formats.proofs.Fits.{branch-funct3, immediate-funct3, load-funct3, register-funct3, register-funct7, shift-funct3, shift-funct7, store-funct3}
 use Rattle.machine_model.specs.Images.{Program}
 use Rattle.asm_text.specs.declared.token.Line.{Line}
 use Rattle.asm_statements.specs.Encoding.{fields_word, complement, r_word, shift_word, i_word, s_word, b_word, u_word, j_word, word_of}
@@ -142,47 +143,12 @@ word-below (instr.Lui rd imm) m = u-below 0b0110111 rd imm (lit< tt) m
 word-below (instr.Auipc rd imm) m = u-below 0b0010111 rd imm (lit< tt) m
 word-below (instr.Jal rd offset) m = j-below rd offset m.1 m.2
 word-below (instr.Jalr rd rs1 imm) m = i-below 0b1100111 0b000 rd rs1 imm (lit< tt) (lit< tt) m
-word-below (instr.Beq rs1 rs2 offset) m = b-below 0b000 rs1 rs2 offset (lit< tt) m
-word-below (instr.Bne rs1 rs2 offset) m = b-below 0b001 rs1 rs2 offset (lit< tt) m
-word-below (instr.Blt rs1 rs2 offset) m = b-below 0b100 rs1 rs2 offset (lit< tt) m
-word-below (instr.Bge rs1 rs2 offset) m = b-below 0b101 rs1 rs2 offset (lit< tt) m
-word-below (instr.Bltu rs1 rs2 offset) m = b-below 0b110 rs1 rs2 offset (lit< tt) m
-word-below (instr.Bgeu rs1 rs2 offset) m = b-below 0b111 rs1 rs2 offset (lit< tt) m
-word-below (instr.Lb rd rs1 imm) m = i-below 0b0000011 0b000 rd rs1 imm (lit< tt) (lit< tt) m
-word-below (instr.Lh rd rs1 imm) m = i-below 0b0000011 0b001 rd rs1 imm (lit< tt) (lit< tt) m
-word-below (instr.Lw rd rs1 imm) m = i-below 0b0000011 0b010 rd rs1 imm (lit< tt) (lit< tt) m
-word-below (instr.Lbu rd rs1 imm) m = i-below 0b0000011 0b100 rd rs1 imm (lit< tt) (lit< tt) m
-word-below (instr.Lhu rd rs1 imm) m = i-below 0b0000011 0b101 rd rs1 imm (lit< tt) (lit< tt) m
-word-below (instr.Sb rs1 rs2 imm) m = s-below 0b000 rs1 rs2 imm (lit< tt) m
-word-below (instr.Sh rs1 rs2 imm) m = s-below 0b001 rs1 rs2 imm (lit< tt) m
-word-below (instr.Sw rs1 rs2 imm) m = s-below 0b010 rs1 rs2 imm (lit< tt) m
-word-below (instr.Addi rd rs1 imm) m = i-below 0b0010011 0b000 rd rs1 imm (lit< tt) (lit< tt) m
-word-below (instr.Slti rd rs1 imm) m = i-below 0b0010011 0b010 rd rs1 imm (lit< tt) (lit< tt) m
-word-below (instr.Sltiu rd rs1 imm) m = i-below 0b0010011 0b011 rd rs1 imm (lit< tt) (lit< tt) m
-word-below (instr.Xori rd rs1 imm) m = i-below 0b0010011 0b100 rd rs1 imm (lit< tt) (lit< tt) m
-word-below (instr.Ori rd rs1 imm) m = i-below 0b0010011 0b110 rd rs1 imm (lit< tt) (lit< tt) m
-word-below (instr.Andi rd rs1 imm) m = i-below 0b0010011 0b111 rd rs1 imm (lit< tt) (lit< tt) m
-word-below (instr.Slli rd rs1 amount) m = shift-below 0b001 0b0000000 rd rs1 amount (lit< tt) (lit< tt) m
-word-below (instr.Srli rd rs1 amount) m = shift-below 0b101 0b0000000 rd rs1 amount (lit< tt) (lit< tt) m
-word-below (instr.Srai rd rs1 amount) m = shift-below 0b101 0b0100000 rd rs1 amount (lit< tt) (lit< tt) m
-word-below (instr.Add rd rs1 rs2) m = r-below 0b000 0b0000000 rd rs1 rs2 (lit< tt) (lit< tt) m
-word-below (instr.Sub rd rs1 rs2) m = r-below 0b000 0b0100000 rd rs1 rs2 (lit< tt) (lit< tt) m
-word-below (instr.Sll rd rs1 rs2) m = r-below 0b001 0b0000000 rd rs1 rs2 (lit< tt) (lit< tt) m
-word-below (instr.Slt rd rs1 rs2) m = r-below 0b010 0b0000000 rd rs1 rs2 (lit< tt) (lit< tt) m
-word-below (instr.Sltu rd rs1 rs2) m = r-below 0b011 0b0000000 rd rs1 rs2 (lit< tt) (lit< tt) m
-word-below (instr.Xor rd rs1 rs2) m = r-below 0b100 0b0000000 rd rs1 rs2 (lit< tt) (lit< tt) m
-word-below (instr.Srl rd rs1 rs2) m = r-below 0b101 0b0000000 rd rs1 rs2 (lit< tt) (lit< tt) m
-word-below (instr.Sra rd rs1 rs2) m = r-below 0b101 0b0100000 rd rs1 rs2 (lit< tt) (lit< tt) m
-word-below (instr.Or rd rs1 rs2) m = r-below 0b110 0b0000000 rd rs1 rs2 (lit< tt) (lit< tt) m
-word-below (instr.And rd rs1 rs2) m = r-below 0b111 0b0000000 rd rs1 rs2 (lit< tt) (lit< tt) m
-word-below (instr.Mul rd rs1 rs2) m = r-below 0b000 0b0000001 rd rs1 rs2 (lit< tt) (lit< tt) m
-word-below (instr.Mulh rd rs1 rs2) m = r-below 0b001 0b0000001 rd rs1 rs2 (lit< tt) (lit< tt) m
-word-below (instr.Mulhsu rd rs1 rs2) m = r-below 0b010 0b0000001 rd rs1 rs2 (lit< tt) (lit< tt) m
-word-below (instr.Mulhu rd rs1 rs2) m = r-below 0b011 0b0000001 rd rs1 rs2 (lit< tt) (lit< tt) m
-word-below (instr.Div rd rs1 rs2) m = r-below 0b100 0b0000001 rd rs1 rs2 (lit< tt) (lit< tt) m
-word-below (instr.Divu rd rs1 rs2) m = r-below 0b101 0b0000001 rd rs1 rs2 (lit< tt) (lit< tt) m
-word-below (instr.Rem rd rs1 rs2) m = r-below 0b110 0b0000001 rd rs1 rs2 (lit< tt) (lit< tt) m
-word-below (instr.Remu rd rs1 rs2) m = r-below 0b111 0b0000001 rd rs1 rs2 (lit< tt) (lit< tt) m
+word-below (instr.Branch x rs1 rs2 offset) m = b-below _ rs1 rs2 offset (branch-funct3 x) m
+word-below (instr.Load x rd rs1 imm) m = i-below 0b0000011 _ rd rs1 imm (lit< tt) (load-funct3 x) m
+word-below (instr.Store x rs1 rs2 imm) m = s-below _ rs1 rs2 imm (store-funct3 x) m
+word-below (instr.Immediate x rd rs1 imm) m = i-below 0b0010011 _ rd rs1 imm (lit< tt) (immediate-funct3 x) m
+word-below (instr.Shift x rd rs1 amount) m = shift-below _ _ rd rs1 amount (shift-funct3 x) (shift-funct7 x) m
+word-below (instr.Register x rd rs1 rs2) m = r-below _ _ rd rs1 rs2 (register-funct3 x) (register-funct7 x) m
 word-below instr.Fence m = lit< tt
 word-below instr.FenceI m = lit< tt
 word-below instr.Ecall m = lit< tt

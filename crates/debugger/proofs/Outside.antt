@@ -5,14 +5,12 @@ use Rattle.std.proofs.lemmas.Bool.Decides.{eqb_tells}
 use Rattle.std.specs.FinMap.{get}
 use Rattle.formats.specs.Table.{instr_of}
 use Rattle.formats.specs.declared.instr.Instr.{Instr}
-use Rattle.formats.specs.declared.instr.Instr.TheVariants as instr
 use Rattle.memory_model.specs.Memory.{Memory, Cell}
 use Rattle.memory_model.specs.Access.{access_fault, fetched, is_writable, low_bytes, put_bytes, size, stored, to_write, with_byte}
 use Rattle.memory_model.specs.declared.access.BusFault.{BusFault}
 use Rattle.memory_model.specs.declared.access.Width.{Width}
-use Rattle.memory_model.specs.declared.access.Width.TheVariants as width
 use Rattle.memory_model.proofs.Memories.{get-insert}
-use Rattle.machine_model.specs.Effects.{ArchitecturalState, InstructionEffect, Becomes, Stops, effect, jumps, load_effect, moved, reg, store_effect, stores}
+use Rattle.machine_model.specs.Effects.{ArchitecturalState, InstructionEffect, Becomes, Stops, effect, store_effect, stores}
 use Rattle.machine_model.specs.Images.{Program}
 use Rattle.machine_model.specs.Replies.{replied, replied_by}
 use Rattle.machine_model.specs.States.{State, Stepped, Goes, Halts, by_fetch, by_instr, by_step, counted, next, stopped_at}
@@ -20,6 +18,7 @@ use Rattle.machine_model.specs.declared.reply.Reply.{Reply}
 use Rattle.machine_model.specs.declared.stop.Cause.TheVariants as cause
 use Rattle.machine_model.specs.declared.stop.Stop.{Stop}
 use Rattle.machine_model.specs.declared.stop.Stop.TheVariants.{Limit, Call, Trap}
+use Rattle.machine_model.proofs.Cases.{of_each}
 use Rattle.machine_model.proofs.Words.{length-low_bytes}
 use Rattle.debugger.specs.Traces.{Traced, traced, Moves, Rests, halt_of, next_at_call, next_by, next_of}
 use Rattle.debugger.specs.Accesses.{IsOutside, LeavesOutside, access_by_fetch, access_by_instr, access_of, access_standing, access_unless, accessed, fetched_access, next_access_of, stored_by, stored_by_next, stored_bytes, stored_with}
@@ -62,17 +61,6 @@ goes-leaves h access registers pc = record { apart = λ a out. refl }
 stands-leaves : (h : ArchitecturalState) (access : Option Access) (why : Stop) → Leaves h access (Stops why)
 stands-leaves h access why = record { apart = λ a out. refl }
 
-jump-leaves : (h : ArchitecturalState) (access : Option Access) (registers : List ℕ) (target : ℕ) → Leaves h access (jumps h registers target)
-jump-leaves h access registers target = by (target % 4 == 0)
-  where
-    by : (b : Bool) → Leaves h access (cond b (Becomes (record { registers = registers; pc = target; memory = h.memory })) (Stops (Trap cause.MisalignedTarget)))
-    by true = goes-leaves h access registers target
-    by false = stands-leaves h access (Trap cause.MisalignedTarget)
-
-load-leaves : (h : ArchitecturalState) (access : Option Access) (rd : ℕ) (extended : ℕ → ℕ) (r : Result ℕ BusFault) → Leaves h access (load_effect h rd extended r)
-load-leaves h access rd extended (Ok value) = goes-leaves h access _ _
-load-leaves h access rd extended (Err fault) = stands-leaves h access _
-
 store-leaves : (h : ArchitecturalState) (at : ℕ) (w : Width) (value : ℕ) → Leaves h (accessed Store at w) (stores h at w value)
 store-leaves h at w value = by (access_fault to_write h.memory at w)
   where
@@ -81,56 +69,11 @@ store-leaves h at w value = by (access_fault to_write h.memory at w)
     by (Some fault) = stands-leaves h (accessed Store at w) _
 
 effect-leaves : (i : Instr) (h : ArchitecturalState) → Leaves h (access_of i h) (effect i h)
-unfolding effect
-effect-leaves (instr.Lui rd imm) h = goes-leaves h _ _ _
-effect-leaves (instr.Auipc rd imm) h = goes-leaves h _ _ _
-effect-leaves (instr.Jal rd offset) h = jump-leaves h _ _ _
-effect-leaves (instr.Jalr rd rs1 imm) h = jump-leaves h _ _ _
-effect-leaves (instr.Beq rs1 rs2 offset) h = jump-leaves h _ _ _
-effect-leaves (instr.Bne rs1 rs2 offset) h = jump-leaves h _ _ _
-effect-leaves (instr.Blt rs1 rs2 offset) h = jump-leaves h _ _ _
-effect-leaves (instr.Bge rs1 rs2 offset) h = jump-leaves h _ _ _
-effect-leaves (instr.Bltu rs1 rs2 offset) h = jump-leaves h _ _ _
-effect-leaves (instr.Bgeu rs1 rs2 offset) h = jump-leaves h _ _ _
-effect-leaves (instr.Lb rd rs1 imm) h = load-leaves h _ _ _ _
-effect-leaves (instr.Lh rd rs1 imm) h = load-leaves h _ _ _ _
-effect-leaves (instr.Lw rd rs1 imm) h = load-leaves h _ _ _ _
-effect-leaves (instr.Lbu rd rs1 imm) h = load-leaves h _ _ _ _
-effect-leaves (instr.Lhu rd rs1 imm) h = load-leaves h _ _ _ _
-effect-leaves (instr.Sb rs1 rs2 imm) h = store-leaves h (moved (reg h rs1) imm) width.Byte (reg h rs2)
-effect-leaves (instr.Sh rs1 rs2 imm) h = store-leaves h (moved (reg h rs1) imm) width.Half (reg h rs2)
-effect-leaves (instr.Sw rs1 rs2 imm) h = store-leaves h (moved (reg h rs1) imm) width.Word (reg h rs2)
-effect-leaves (instr.Addi rd rs1 imm) h = goes-leaves h _ _ _
-effect-leaves (instr.Slti rd rs1 imm) h = goes-leaves h _ _ _
-effect-leaves (instr.Sltiu rd rs1 imm) h = goes-leaves h _ _ _
-effect-leaves (instr.Xori rd rs1 imm) h = goes-leaves h _ _ _
-effect-leaves (instr.Ori rd rs1 imm) h = goes-leaves h _ _ _
-effect-leaves (instr.Andi rd rs1 imm) h = goes-leaves h _ _ _
-effect-leaves (instr.Slli rd rs1 amount) h = goes-leaves h _ _ _
-effect-leaves (instr.Srli rd rs1 amount) h = goes-leaves h _ _ _
-effect-leaves (instr.Srai rd rs1 amount) h = goes-leaves h _ _ _
-effect-leaves (instr.Add rd rs1 rs2) h = goes-leaves h _ _ _
-effect-leaves (instr.Sub rd rs1 rs2) h = goes-leaves h _ _ _
-effect-leaves (instr.Sll rd rs1 rs2) h = goes-leaves h _ _ _
-effect-leaves (instr.Slt rd rs1 rs2) h = goes-leaves h _ _ _
-effect-leaves (instr.Sltu rd rs1 rs2) h = goes-leaves h _ _ _
-effect-leaves (instr.Xor rd rs1 rs2) h = goes-leaves h _ _ _
-effect-leaves (instr.Srl rd rs1 rs2) h = goes-leaves h _ _ _
-effect-leaves (instr.Sra rd rs1 rs2) h = goes-leaves h _ _ _
-effect-leaves (instr.Or rd rs1 rs2) h = goes-leaves h _ _ _
-effect-leaves (instr.And rd rs1 rs2) h = goes-leaves h _ _ _
-effect-leaves (instr.Mul rd rs1 rs2) h = goes-leaves h _ _ _
-effect-leaves (instr.Mulh rd rs1 rs2) h = goes-leaves h _ _ _
-effect-leaves (instr.Mulhsu rd rs1 rs2) h = goes-leaves h _ _ _
-effect-leaves (instr.Mulhu rd rs1 rs2) h = goes-leaves h _ _ _
-effect-leaves (instr.Div rd rs1 rs2) h = goes-leaves h _ _ _
-effect-leaves (instr.Divu rd rs1 rs2) h = goes-leaves h _ _ _
-effect-leaves (instr.Rem rd rs1 rs2) h = goes-leaves h _ _ _
-effect-leaves (instr.Remu rd rs1 rs2) h = goes-leaves h _ _ _
-effect-leaves instr.Fence h = goes-leaves h _ _ _
-effect-leaves instr.FenceI h = goes-leaves h _ _ _
-effect-leaves instr.Ecall h = stands-leaves h _ _
-effect-leaves instr.Ebreak h = stands-leaves h _ _
+effect-leaves = of_each (λ i h e. Leaves h (access_of i h) e) (record {
+  becomes = λ i h registers pc. goes-leaves h _ registers pc;
+  stops = λ i h stop apart. stands-leaves h _ stop;
+  stored = λ width rs1 rs2 imm h. store-leaves h _ width _;
+})
 
 same_state : (s t : State) → Goes s ≡ Goes t → s ≡ t
 same_state s t e = cc

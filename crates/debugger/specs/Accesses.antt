@@ -3,11 +3,11 @@ use Rattle.std.specs.Prelude.{◌≡◌, ℕ, ◌+◌, ◌^◌, ◌<◌, ◌≤�
 use Rattle.std.specs.FinMap.{get}
 use Rattle.formats.specs.declared.instr.Instr.{Instr}
 use Rattle.formats.specs.declared.instr.Instr.TheVariants as instr
+use Rattle.formats.specs.Operators.{width_of}
 use Rattle.formats.specs.Table.{instr_of}
 use Rattle.memory_model.specs.Access.{fetched, size}
 use Rattle.memory_model.specs.declared.access.BusFault.{BusFault}
 use Rattle.memory_model.specs.declared.access.Width.{Width}
-use Rattle.memory_model.specs.declared.access.Width.TheVariants.{Byte, Half, Word}
 use Rattle.machine_model.specs.Effects.{ArchitecturalState, moved, reg}
 use Rattle.machine_model.specs.Images.{Program}
 use Rattle.machine_model.specs.States.{State, stopped_at}
@@ -23,16 +23,10 @@ use Rattle.debugger.specs.declared.halt.Halt.{Halt}
 abbrev pub accessed : AccessKind → ℕ → Width → Option Access
 accessed kind at width = Some (record { at = at; length = size width; kind = kind })
 
--- what an instruction loads or stores: one clause for each row of the table that does
+-- what an instruction loads or stores
 abbrev pub access_of : Instr → ArchitecturalState → Option Access
-access_of (instr.Lb rd rs1 imm) h = accessed Load (moved (reg h rs1) imm) Byte
-access_of (instr.Lh rd rs1 imm) h = accessed Load (moved (reg h rs1) imm) Half
-access_of (instr.Lw rd rs1 imm) h = accessed Load (moved (reg h rs1) imm) Word
-access_of (instr.Lbu rd rs1 imm) h = accessed Load (moved (reg h rs1) imm) Byte
-access_of (instr.Lhu rd rs1 imm) h = accessed Load (moved (reg h rs1) imm) Half
-access_of (instr.Sb rs1 rs2 imm) h = accessed Store (moved (reg h rs1) imm) Byte
-access_of (instr.Sh rs1 rs2 imm) h = accessed Store (moved (reg h rs1) imm) Half
-access_of (instr.Sw rs1 rs2 imm) h = accessed Store (moved (reg h rs1) imm) Word
+access_of (instr.Load operator rd rs1 imm) h = accessed Load (moved (reg h rs1) imm) (width_of operator)
+access_of (instr.Store width rs1 rs2 imm) h = accessed Store (moved (reg h rs1) imm) width
 access_of _ h = None
 
 abbrev pub access_by_instr : ArchitecturalState → Option Instr → Option Access

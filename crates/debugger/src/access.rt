@@ -58,16 +58,18 @@ fn access_of(machine: &Machine, instr: Instr) -> Option<Access>
     ensures { result ≡ access_in instr machine.now.architectural }
 {
     match instr {
-        Instr::Lb { rs1, imm, .. } | Instr::Lbu { rs1, imm, .. } => {
-            named(machine, AccessKind::Load, rs1, imm, Width::Byte)
-        }
-        Instr::Lh { rs1, imm, .. } | Instr::Lhu { rs1, imm, .. } => {
-            named(machine, AccessKind::Load, rs1, imm, Width::Half)
-        }
-        Instr::Lw { rs1, imm, .. } => named(machine, AccessKind::Load, rs1, imm, Width::Word),
-        Instr::Sb { rs1, imm, .. } => named(machine, AccessKind::Store, rs1, imm, Width::Byte),
-        Instr::Sh { rs1, imm, .. } => named(machine, AccessKind::Store, rs1, imm, Width::Half),
-        Instr::Sw { rs1, imm, .. } => named(machine, AccessKind::Store, rs1, imm, Width::Word),
+        Instr::Load {
+            operator,
+            rs1,
+            imm,
+            ..
+        } => named(machine, AccessKind::Load, rs1, imm, operator.width()),
+        Instr::Store {
+            width,
+            rs1,
+            imm,
+            ..
+        } => named(machine, AccessKind::Store, rs1, imm, width),
         _ => None,
     }
 }

@@ -1,4 +1,4 @@
 -- The lemmas of more than one proof.
+pub mod Fits
 pub mod Rows
 pub mod Spelling
-pub mod Texts

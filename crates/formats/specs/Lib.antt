@@ -1,7 +1,7 @@
 -- The definitions that the contracts cite.
 pub mod Fields
-pub mod Meaning
+pub mod Operators
 pub mod Table
+pub mod Meaning
 pub mod Text
-pub mod Operands
 pub mod Faults

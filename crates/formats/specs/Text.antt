@@ -1,6 +1,7 @@
 -- How instructions are written, with the registers' ABI names (RISC-V Unprivileged ISA 20191213, chapter 25).
 use Rattle.std.specs.Prelude.{ℕ, ℤ, false, List, [], ◌∷◌, ◌++◌, codes, decimal, slice_index_or}
 use Rattle.std.specs.Fmt.{signed_decimal, digits}
+use Rattle.formats.specs.Table.{branch_row, load_row, store_row, immediate_row, shift_row, register_row}
 use Rattle.formats.specs.declared.instr.Instr.{Instr}
 use Rattle.formats.specs.declared.instr.Instr.TheVariants as instr
 
@@ -15,82 +16,60 @@ register_names =
 abbrev pub register_name : ℕ → List ℕ
 register_name number = slice_index_or register_names number []
 
--- `op a,b`
-abbrev pub with_two : List ℕ → List ℕ → List ℕ → List ℕ
-with_two op a b = op ++ (codes " " ++ (a ++ (codes "," ++ b)))
+-- ` a,b`
+abbrev pub with_two : List ℕ → List ℕ → List ℕ
+with_two a b = codes " " ++ (a ++ (codes "," ++ b))
 
--- `op a,b,c`
-abbrev pub with_three : List ℕ → List ℕ → List ℕ → List ℕ → List ℕ
-with_three op a b c = op ++ (codes " " ++ (a ++ (codes "," ++ (b ++ (codes "," ++ c)))))
+-- ` a,b,c`
+abbrev pub with_three : List ℕ → List ℕ → List ℕ → List ℕ
+with_three a b c = codes " " ++ (a ++ (codes "," ++ (b ++ (codes "," ++ c))))
 
--- `op rd,rs1,rs2`
-abbrev pub with_registers : List ℕ → ℕ → ℕ → ℕ → List ℕ
-with_registers op rd rs1 rs2 = with_three op (register_name rd) (register_name rs1) (register_name rs2)
+-- ` rd,rs1,imm`, and ` rs1,rs2,offset` of a branch
+abbrev pub with_number : ℕ → ℕ → ℤ → List ℕ
+with_number a b number = with_three (register_name a) (register_name b) (signed_decimal number)
 
--- `op rd,rs1,imm`, and `op rs1,rs2,offset` of a branch
-abbrev pub with_number : List ℕ → ℕ → ℕ → ℤ → List ℕ
-with_number op a b number = with_three op (register_name a) (register_name b) (signed_decimal number)
+-- ` register,imm(rs1)`
+abbrev pub with_address : ℕ → ℕ → ℤ → List ℕ
+with_address register rs1 imm = with_two (register_name register) (signed_decimal imm ++ (codes "(" ++ (register_name rs1 ++ codes ")")))
 
--- `op rd,rs1,amount`
-abbrev pub with_amount : List ℕ → ℕ → ℕ → ℕ → List ℕ
-with_amount op rd rs1 amount = with_three op (register_name rd) (register_name rs1) (decimal amount)
+-- ` rd,0x` and the upper bits in hexadecimal
+abbrev pub with_upper : ℕ → ℕ → List ℕ
+with_upper rd imm = codes " " ++ (register_name rd ++ (codes ",0x" ++ digits 16 false imm))
 
--- `op register,imm(rs1)`
-abbrev pub with_address : List ℕ → ℕ → ℕ → ℤ → List ℕ
-with_address op register rs1 imm = with_two op (register_name register) (signed_decimal imm ++ (codes "(" ++ (register_name rs1 ++ codes ")")))
+-- the mnemonic of an instruction
+abbrev pub mnemonic_of : Instr → List ℕ
+mnemonic_of (instr.Lui rd imm) = codes "lui"
+mnemonic_of (instr.Auipc rd imm) = codes "auipc"
+mnemonic_of (instr.Jal rd offset) = codes "jal"
+mnemonic_of (instr.Jalr rd rs1 imm) = codes "jalr"
+mnemonic_of (instr.Branch condition rs1 rs2 offset) = (branch_row condition).mnemonic
+mnemonic_of (instr.Load operator rd rs1 imm) = (load_row operator).mnemonic
+mnemonic_of (instr.Store width rs1 rs2 imm) = (store_row width).mnemonic
+mnemonic_of (instr.Immediate operator rd rs1 imm) = (immediate_row operator).mnemonic
+mnemonic_of (instr.Shift operator rd rs1 amount) = (shift_row operator).mnemonic
+mnemonic_of (instr.Register operator rd rs1 rs2) = (register_row operator).mnemonic
+mnemonic_of instr.Fence = codes "fence"
+mnemonic_of instr.FenceI = codes "fence.i"
+mnemonic_of instr.Ecall = codes "ecall"
+mnemonic_of instr.Ebreak = codes "ebreak"
 
--- `op rd,0x` and the upper bits in hexadecimal
-abbrev pub with_upper : List ℕ → ℕ → ℕ → List ℕ
-with_upper op rd imm = op ++ (codes " " ++ (register_name rd ++ (codes ",0x" ++ digits 16 false imm)))
+-- its operands with a blank before them; nothing where there are none
+abbrev pub operands_text : Instr → List ℕ
+operands_text (instr.Lui rd imm) = with_upper rd imm
+operands_text (instr.Auipc rd imm) = with_upper rd imm
+operands_text (instr.Jal rd offset) = with_two (register_name rd) (signed_decimal offset)
+operands_text (instr.Jalr rd rs1 imm) = with_address rd rs1 imm
+operands_text (instr.Branch condition rs1 rs2 offset) = with_number rs1 rs2 offset
+operands_text (instr.Load operator rd rs1 imm) = with_address rd rs1 imm
+operands_text (instr.Store width rs1 rs2 imm) = with_address rs2 rs1 imm
+operands_text (instr.Immediate operator rd rs1 imm) = with_number rd rs1 imm
+operands_text (instr.Shift operator rd rs1 amount) = with_three (register_name rd) (register_name rs1) (decimal amount)
+operands_text (instr.Register operator rd rs1 rs2) = with_three (register_name rd) (register_name rs1) (register_name rs2)
+operands_text instr.Fence = []
+operands_text instr.FenceI = []
+operands_text instr.Ecall = []
+operands_text instr.Ebreak = []
 
 -- the text of an instruction
 abbrev pub text_of : Instr → List ℕ
-text_of (instr.Lui rd imm) = with_upper (codes "lui") rd imm
-text_of (instr.Auipc rd imm) = with_upper (codes "auipc") rd imm
-text_of (instr.Jal rd offset) = with_two (codes "jal") (register_name rd) (signed_decimal offset)
-text_of (instr.Jalr rd rs1 imm) = with_address (codes "jalr") rd rs1 imm
-text_of (instr.Beq rs1 rs2 offset) = with_number (codes "beq") rs1 rs2 offset
-text_of (instr.Bne rs1 rs2 offset) = with_number (codes "bne") rs1 rs2 offset
-text_of (instr.Blt rs1 rs2 offset) = with_number (codes "blt") rs1 rs2 offset
-text_of (instr.Bge rs1 rs2 offset) = with_number (codes "bge") rs1 rs2 offset
-text_of (instr.Bltu rs1 rs2 offset) = with_number (codes "bltu") rs1 rs2 offset
-text_of (instr.Bgeu rs1 rs2 offset) = with_number (codes "bgeu") rs1 rs2 offset
-text_of (instr.Lb rd rs1 imm) = with_address (codes "lb") rd rs1 imm
-text_of (instr.Lh rd rs1 imm) = with_address (codes "lh") rd rs1 imm
-text_of (instr.Lw rd rs1 imm) = with_address (codes "lw") rd rs1 imm
-text_of (instr.Lbu rd rs1 imm) = with_address (codes "lbu") rd rs1 imm
-text_of (instr.Lhu rd rs1 imm) = with_address (codes "lhu") rd rs1 imm
-text_of (instr.Sb rs1 rs2 imm) = with_address (codes "sb") rs2 rs1 imm
-text_of (instr.Sh rs1 rs2 imm) = with_address (codes "sh") rs2 rs1 imm
-text_of (instr.Sw rs1 rs2 imm) = with_address (codes "sw") rs2 rs1 imm
-text_of (instr.Addi rd rs1 imm) = with_number (codes "addi") rd rs1 imm
-text_of (instr.Slti rd rs1 imm) = with_number (codes "slti") rd rs1 imm
-text_of (instr.Sltiu rd rs1 imm) = with_number (codes "sltiu") rd rs1 imm
-text_of (instr.Xori rd rs1 imm) = with_number (codes "xori") rd rs1 imm
-text_of (instr.Ori rd rs1 imm) = with_number (codes "ori") rd rs1 imm
-text_of (instr.Andi rd rs1 imm) = with_number (codes "andi") rd rs1 imm
-text_of (instr.Slli rd rs1 amount) = with_amount (codes "slli") rd rs1 amount
-text_of (instr.Srli rd rs1 amount) = with_amount (codes "srli") rd rs1 amount
-text_of (instr.Srai rd rs1 amount) = with_amount (codes "srai") rd rs1 amount
-text_of (instr.Add rd rs1 rs2) = with_registers (codes "add") rd rs1 rs2
-text_of (instr.Sub rd rs1 rs2) = with_registers (codes "sub") rd rs1 rs2
-text_of (instr.Sll rd rs1 rs2) = with_registers (codes "sll") rd rs1 rs2
-text_of (instr.Slt rd rs1 rs2) = with_registers (codes "slt") rd rs1 rs2
-text_of (instr.Sltu rd rs1 rs2) = with_registers (codes "sltu") rd rs1 rs2
-text_of (instr.Xor rd rs1 rs2) = with_registers (codes "xor") rd rs1 rs2
-text_of (instr.Srl rd rs1 rs2) = with_registers (codes "srl") rd rs1 rs2
-text_of (instr.Sra rd rs1 rs2) = with_registers (codes "sra") rd rs1 rs2
-text_of (instr.Or rd rs1 rs2) = with_registers (codes "or") rd rs1 rs2
-text_of (instr.And rd rs1 rs2) = with_registers (codes "and") rd rs1 rs2
-text_of (instr.Mul rd rs1 rs2) = with_registers (codes "mul") rd rs1 rs2
-text_of (instr.Mulh rd rs1 rs2) = with_registers (codes "mulh") rd rs1 rs2
-text_of (instr.Mulhsu rd rs1 rs2) = with_registers (codes "mulhsu") rd rs1 rs2
-text_of (instr.Mulhu rd rs1 rs2) = with_registers (codes "mulhu") rd rs1 rs2
-text_of (instr.Div rd rs1 rs2) = with_registers (codes "div") rd rs1 rs2
-text_of (instr.Divu rd rs1 rs2) = with_registers (codes "divu") rd rs1 rs2
-text_of (instr.Rem rd rs1 rs2) = with_registers (codes "rem") rd rs1 rs2
-text_of (instr.Remu rd rs1 rs2) = with_registers (codes "remu") rd rs1 rs2
-text_of instr.Fence = codes "fence"
-text_of instr.FenceI = codes "fence.i"
-text_of instr.Ecall = codes "ecall"
-text_of instr.Ebreak = codes "ebreak"
+text_of i = mnemonic_of i ++ operands_text i

@@ -1,10 +1,13 @@
 //! Instructions from numbers that may not fit their fields.
 ghost use Rattle.std.specs.Prelude.{◌≡◌, OkIff, unsigned_abs};
 ghost use Rattle.formats.specs.Faults.{number_of};
+ghost use Rattle.formats.specs.declared.operators.Condition.TheVariants as condition;
 ghost use Rattle.formats.specs.Fields.{IsImmediate, IsBranchOffset, IsJumpOffset, IsUpper, IsShiftAmount};
 
 use crate::fields::{BranchOffset, Immediate, JumpOffset, Reg, ShiftAmount, Upper};
 use crate::instr::Instr;
+use crate::operators::{Condition, ImmediateOperator, LoadOperator, ShiftOperator};
+use memory_model::Width;
 use thiserror::Error;
 
 /// Why a number is no field of an instruction.
@@ -61,187 +64,224 @@ impl Instr {
 
     /// `beq rs1,rs2,offset`: goes to the pc plus offset where rs1 equals rs2.
     pub fn beq(rs1: Reg, rs2: Reg, offset: i64) -> Result<Self, FieldFault>
-        ensures { OkIff result (IsBranchOffset offset) (Instr.Beq rs1 rs2 offset) }
+        ensures { OkIff result (IsBranchOffset offset) (Instr.Branch condition.Equal rs1 rs2 offset) }
     {
-        let offset = branch_offset(offset)?;
-        Ok(Instr::Beq { rs1, rs2, offset })
+        branch(Condition::Equal, rs1, rs2, offset)
     }
 
     /// `bne rs1,rs2,offset`: where rs1 does not equal rs2.
     pub fn bne(rs1: Reg, rs2: Reg, offset: i64) -> Result<Self, FieldFault>
-        ensures { OkIff result (IsBranchOffset offset) (Instr.Bne rs1 rs2 offset) }
+        ensures { OkIff result (IsBranchOffset offset) (Instr.Branch condition.NotEqual rs1 rs2 offset) }
     {
-        let offset = branch_offset(offset)?;
-        Ok(Instr::Bne { rs1, rs2, offset })
+        branch(Condition::NotEqual, rs1, rs2, offset)
     }
 
     /// `blt rs1,rs2,offset`: where rs1 is below rs2, both signed.
     pub fn blt(rs1: Reg, rs2: Reg, offset: i64) -> Result<Self, FieldFault>
-        ensures { OkIff result (IsBranchOffset offset) (Instr.Blt rs1 rs2 offset) }
+        ensures { OkIff result (IsBranchOffset offset) (Instr.Branch condition.Less rs1 rs2 offset) }
     {
-        let offset = branch_offset(offset)?;
-        Ok(Instr::Blt { rs1, rs2, offset })
+        branch(Condition::Less, rs1, rs2, offset)
     }
 
     /// `bge rs1,rs2,offset`: where rs1 is at least rs2, both signed.
     pub fn bge(rs1: Reg, rs2: Reg, offset: i64) -> Result<Self, FieldFault>
-        ensures { OkIff result (IsBranchOffset offset) (Instr.Bge rs1 rs2 offset) }
+        ensures { OkIff result (IsBranchOffset offset) (Instr.Branch condition.NotLess rs1 rs2 offset) }
     {
-        let offset = branch_offset(offset)?;
-        Ok(Instr::Bge { rs1, rs2, offset })
+        branch(Condition::NotLess, rs1, rs2, offset)
     }
 
     /// `bltu rs1,rs2,offset`: where rs1 is below rs2, both unsigned.
     pub fn bltu(rs1: Reg, rs2: Reg, offset: i64) -> Result<Self, FieldFault>
-        ensures { OkIff result (IsBranchOffset offset) (Instr.Bltu rs1 rs2 offset) }
+        ensures { OkIff result (IsBranchOffset offset) (Instr.Branch condition.Below rs1 rs2 offset) }
     {
-        let offset = branch_offset(offset)?;
-        Ok(Instr::Bltu { rs1, rs2, offset })
+        branch(Condition::Below, rs1, rs2, offset)
     }
 
     /// `bgeu rs1,rs2,offset`: where rs1 is at least rs2, both unsigned.
     pub fn bgeu(rs1: Reg, rs2: Reg, offset: i64) -> Result<Self, FieldFault>
-        ensures { OkIff result (IsBranchOffset offset) (Instr.Bgeu rs1 rs2 offset) }
+        ensures { OkIff result (IsBranchOffset offset) (Instr.Branch condition.NotBelow rs1 rs2 offset) }
     {
-        let offset = branch_offset(offset)?;
-        Ok(Instr::Bgeu { rs1, rs2, offset })
+        branch(Condition::NotBelow, rs1, rs2, offset)
     }
 
     /// `lb rd,imm(rs1)`: loads a byte, with its sign.
     pub fn lb(rd: Reg, rs1: Reg, imm: i64) -> Result<Self, FieldFault>
-        ensures { OkIff result (IsImmediate imm) (Instr.Lb rd rs1 imm) }
+        ensures { OkIff result (IsImmediate imm) (Instr.Load LoadOperator.Lb rd rs1 imm) }
     {
-        let imm = immediate(imm)?;
-        Ok(Instr::Lb { rd, rs1, imm })
+        load(LoadOperator::Lb, rd, rs1, imm)
     }
 
     /// `lh rd,imm(rs1)`: loads two bytes, with their sign.
     pub fn lh(rd: Reg, rs1: Reg, imm: i64) -> Result<Self, FieldFault>
-        ensures { OkIff result (IsImmediate imm) (Instr.Lh rd rs1 imm) }
+        ensures { OkIff result (IsImmediate imm) (Instr.Load LoadOperator.Lh rd rs1 imm) }
     {
-        let imm = immediate(imm)?;
-        Ok(Instr::Lh { rd, rs1, imm })
+        load(LoadOperator::Lh, rd, rs1, imm)
     }
 
     /// `lw rd,imm(rs1)`: loads four bytes.
     pub fn lw(rd: Reg, rs1: Reg, imm: i64) -> Result<Self, FieldFault>
-        ensures { OkIff result (IsImmediate imm) (Instr.Lw rd rs1 imm) }
+        ensures { OkIff result (IsImmediate imm) (Instr.Load LoadOperator.Lw rd rs1 imm) }
     {
-        let imm = immediate(imm)?;
-        Ok(Instr::Lw { rd, rs1, imm })
+        load(LoadOperator::Lw, rd, rs1, imm)
     }
 
     /// `lbu rd,imm(rs1)`: loads a byte, unsigned.
     pub fn lbu(rd: Reg, rs1: Reg, imm: i64) -> Result<Self, FieldFault>
-        ensures { OkIff result (IsImmediate imm) (Instr.Lbu rd rs1 imm) }
+        ensures { OkIff result (IsImmediate imm) (Instr.Load LoadOperator.Lbu rd rs1 imm) }
     {
-        let imm = immediate(imm)?;
-        Ok(Instr::Lbu { rd, rs1, imm })
+        load(LoadOperator::Lbu, rd, rs1, imm)
     }
 
     /// `lhu rd,imm(rs1)`: loads two bytes, unsigned.
     pub fn lhu(rd: Reg, rs1: Reg, imm: i64) -> Result<Self, FieldFault>
-        ensures { OkIff result (IsImmediate imm) (Instr.Lhu rd rs1 imm) }
+        ensures { OkIff result (IsImmediate imm) (Instr.Load LoadOperator.Lhu rd rs1 imm) }
     {
-        let imm = immediate(imm)?;
-        Ok(Instr::Lhu { rd, rs1, imm })
+        load(LoadOperator::Lhu, rd, rs1, imm)
     }
 
     /// `sb rs2,imm(rs1)`: stores the lowest byte of rs2.
     pub fn sb(rs1: Reg, rs2: Reg, imm: i64) -> Result<Self, FieldFault>
-        ensures { OkIff result (IsImmediate imm) (Instr.Sb rs1 rs2 imm) }
+        ensures { OkIff result (IsImmediate imm) (Instr.Store Width.Byte rs1 rs2 imm) }
     {
-        let imm = immediate(imm)?;
-        Ok(Instr::Sb { rs1, rs2, imm })
+        store(Width::Byte, rs1, rs2, imm)
     }
 
     /// `sh rs2,imm(rs1)`: stores the lowest two bytes of rs2.
     pub fn sh(rs1: Reg, rs2: Reg, imm: i64) -> Result<Self, FieldFault>
-        ensures { OkIff result (IsImmediate imm) (Instr.Sh rs1 rs2 imm) }
+        ensures { OkIff result (IsImmediate imm) (Instr.Store Width.Half rs1 rs2 imm) }
     {
-        let imm = immediate(imm)?;
-        Ok(Instr::Sh { rs1, rs2, imm })
+        store(Width::Half, rs1, rs2, imm)
     }
 
     /// `sw rs2,imm(rs1)`: stores rs2.
     pub fn sw(rs1: Reg, rs2: Reg, imm: i64) -> Result<Self, FieldFault>
-        ensures { OkIff result (IsImmediate imm) (Instr.Sw rs1 rs2 imm) }
+        ensures { OkIff result (IsImmediate imm) (Instr.Store Width.Word rs1 rs2 imm) }
     {
-        let imm = immediate(imm)?;
-        Ok(Instr::Sw { rs1, rs2, imm })
+        store(Width::Word, rs1, rs2, imm)
     }
 
     /// `addi rd,rs1,imm`: the sum, which wraps.
     pub fn addi(rd: Reg, rs1: Reg, imm: i64) -> Result<Self, FieldFault>
-        ensures { OkIff result (IsImmediate imm) (Instr.Addi rd rs1 imm) }
+        ensures { OkIff result (IsImmediate imm) (Instr.Immediate ImmediateOperator.Addi rd rs1 imm) }
     {
-        let imm = immediate(imm)?;
-        Ok(Instr::Addi { rd, rs1, imm })
+        operation(ImmediateOperator::Addi, rd, rs1, imm)
     }
 
     /// `slti rd,rs1,imm`: 1 where rs1 is below imm, both signed, else 0.
     pub fn slti(rd: Reg, rs1: Reg, imm: i64) -> Result<Self, FieldFault>
-        ensures { OkIff result (IsImmediate imm) (Instr.Slti rd rs1 imm) }
+        ensures { OkIff result (IsImmediate imm) (Instr.Immediate ImmediateOperator.Slti rd rs1 imm) }
     {
-        let imm = immediate(imm)?;
-        Ok(Instr::Slti { rd, rs1, imm })
+        operation(ImmediateOperator::Slti, rd, rs1, imm)
     }
 
     /// `sltiu rd,rs1,imm`: 1 where rs1 is below imm, extended with its sign and then unsigned, else 0.
     pub fn sltiu(rd: Reg, rs1: Reg, imm: i64) -> Result<Self, FieldFault>
-        ensures { OkIff result (IsImmediate imm) (Instr.Sltiu rd rs1 imm) }
+        ensures { OkIff result (IsImmediate imm) (Instr.Immediate ImmediateOperator.Sltiu rd rs1 imm) }
     {
-        let imm = immediate(imm)?;
-        Ok(Instr::Sltiu { rd, rs1, imm })
+        operation(ImmediateOperator::Sltiu, rd, rs1, imm)
     }
 
     /// `xori rd,rs1,imm`: the exclusive or of the bits.
     pub fn xori(rd: Reg, rs1: Reg, imm: i64) -> Result<Self, FieldFault>
-        ensures { OkIff result (IsImmediate imm) (Instr.Xori rd rs1 imm) }
+        ensures { OkIff result (IsImmediate imm) (Instr.Immediate ImmediateOperator.Xori rd rs1 imm) }
     {
-        let imm = immediate(imm)?;
-        Ok(Instr::Xori { rd, rs1, imm })
+        operation(ImmediateOperator::Xori, rd, rs1, imm)
     }
 
     /// `ori rd,rs1,imm`: the or of the bits.
     pub fn ori(rd: Reg, rs1: Reg, imm: i64) -> Result<Self, FieldFault>
-        ensures { OkIff result (IsImmediate imm) (Instr.Ori rd rs1 imm) }
+        ensures { OkIff result (IsImmediate imm) (Instr.Immediate ImmediateOperator.Ori rd rs1 imm) }
     {
-        let imm = immediate(imm)?;
-        Ok(Instr::Ori { rd, rs1, imm })
+        operation(ImmediateOperator::Ori, rd, rs1, imm)
     }
 
     /// `andi rd,rs1,imm`: the and of the bits.
     pub fn andi(rd: Reg, rs1: Reg, imm: i64) -> Result<Self, FieldFault>
-        ensures { OkIff result (IsImmediate imm) (Instr.Andi rd rs1 imm) }
+        ensures { OkIff result (IsImmediate imm) (Instr.Immediate ImmediateOperator.Andi rd rs1 imm) }
     {
-        let imm = immediate(imm)?;
-        Ok(Instr::Andi { rd, rs1, imm })
+        operation(ImmediateOperator::Andi, rd, rs1, imm)
     }
 
     /// `slli rd,rs1,amount`: rs1 shifted up.
     pub fn slli(rd: Reg, rs1: Reg, amount: i64) -> Result<Self, FieldFault>
-        ensures { OkIff result (IsShiftAmount amount) (Instr.Slli rd rs1 (unsigned_abs amount)) }
+        ensures { OkIff result (IsShiftAmount amount) (Instr.Shift ShiftOperator.Slli rd rs1 (unsigned_abs amount)) }
     {
-        let amount = shift_amount(amount)?;
-        Ok(Instr::Slli { rd, rs1, amount })
+        shift(ShiftOperator::Slli, rd, rs1, amount)
     }
 
     /// `srli rd,rs1,amount`: rs1 shifted down, zeros coming in.
     pub fn srli(rd: Reg, rs1: Reg, amount: i64) -> Result<Self, FieldFault>
-        ensures { OkIff result (IsShiftAmount amount) (Instr.Srli rd rs1 (unsigned_abs amount)) }
+        ensures { OkIff result (IsShiftAmount amount) (Instr.Shift ShiftOperator.Srli rd rs1 (unsigned_abs amount)) }
     {
-        let amount = shift_amount(amount)?;
-        Ok(Instr::Srli { rd, rs1, amount })
+        shift(ShiftOperator::Srli, rd, rs1, amount)
     }
 
     /// `srai rd,rs1,amount`: rs1 shifted down, copies of the sign coming in.
     pub fn srai(rd: Reg, rs1: Reg, amount: i64) -> Result<Self, FieldFault>
-        ensures { OkIff result (IsShiftAmount amount) (Instr.Srai rd rs1 (unsigned_abs amount)) }
+        ensures { OkIff result (IsShiftAmount amount) (Instr.Shift ShiftOperator.Srai rd rs1 (unsigned_abs amount)) }
     {
-        let amount = shift_amount(amount)?;
-        Ok(Instr::Srai { rd, rs1, amount })
+        shift(ShiftOperator::Srai, rd, rs1, amount)
     }
+}
+
+fn branch(condition: Condition, rs1: Reg, rs2: Reg, offset: i64) -> Result<Instr, FieldFault>
+    ensures { OkIff result (IsBranchOffset offset) (Instr.Branch condition rs1 rs2 offset) }
+{
+    let offset = branch_offset(offset)?;
+    Ok(Instr::Branch {
+        condition,
+        rs1,
+        rs2,
+        offset,
+    })
+}
+
+fn load(operator: LoadOperator, rd: Reg, rs1: Reg, imm: i64) -> Result<Instr, FieldFault>
+    ensures { OkIff result (IsImmediate imm) (Instr.Load operator rd rs1 imm) }
+{
+    let imm = immediate(imm)?;
+    Ok(Instr::Load {
+        operator,
+        rd,
+        rs1,
+        imm,
+    })
+}
+
+fn store(width: Width, rs1: Reg, rs2: Reg, imm: i64) -> Result<Instr, FieldFault>
+    ensures { OkIff result (IsImmediate imm) (Instr.Store width rs1 rs2 imm) }
+{
+    let imm = immediate(imm)?;
+    Ok(Instr::Store {
+        width,
+        rs1,
+        rs2,
+        imm,
+    })
+}
+
+fn operation(operator: ImmediateOperator, rd: Reg, rs1: Reg, imm: i64) -> Result<Instr, FieldFault>
+    ensures { OkIff result (IsImmediate imm) (Instr.Immediate operator rd rs1 imm) }
+{
+    let imm = immediate(imm)?;
+    Ok(Instr::Immediate {
+        operator,
+        rd,
+        rs1,
+        imm,
+    })
+}
+
+fn shift(operator: ShiftOperator, rd: Reg, rs1: Reg, amount: i64) -> Result<Instr, FieldFault>
+    ensures { OkIff result (IsShiftAmount amount) (Instr.Shift operator rd rs1 (unsigned_abs amount)) }
+{
+    let amount = shift_amount(amount)?;
+    Ok(Instr::Shift {
+        operator,
+        rd,
+        rs1,
+        amount,
+    })
 }
 
 fn immediate(imm: i64) -> Result<Immediate, FieldFault>

@@ -2,10 +2,11 @@
 ghost use Rattle.std.specs.Prelude.{◌≡◌, ◌<◌, ◌+◌, ◌^◌, MatchOption};
 ghost use Rattle.formats.specs.Fields.{field, signed, immediate_i, immediate_s, immediate_b, immediate_u, immediate_j};
 ghost use Rattle.formats.specs.Meaning.{Means};
-ghost use Rattle.formats.specs.Table.{branch_of, load_of, store_of, shift_of, immediate_of, base_of, alternate_of, multiply_of, register_of, instr_of};
+ghost use Rattle.formats.specs.Table.{branch_of, load_of, store_of, shift_of, immediate_of, register_of, instr_of};
 
 use crate::fields::{BranchOffset, Immediate, JumpOffset, Reg, ShiftAmount, Upper};
 use crate::instr::Instr;
+use crate::table::{BRANCHES, IMMEDIATES, LOADS, REGISTERS, SHIFTS, STORES, found};
 
 /// The instruction that a word means, or `None` where the word is illegal (RISC-V Unprivileged ISA 20191213, chapter 24).
 ///
@@ -136,128 +137,76 @@ fn jump_offset(word: u32) -> JumpOffset
 fn branch(funct3: u32, rs1: Reg, rs2: Reg, offset: BranchOffset) -> Option<Instr>
     ensures { result ≡ branch_of funct3 rs1 rs2 offset }
 {
-    match funct3 {
-        0b000 => Some(Instr::Beq { rs1, rs2, offset }),
-        0b001 => Some(Instr::Bne { rs1, rs2, offset }),
-        0b100 => Some(Instr::Blt { rs1, rs2, offset }),
-        0b101 => Some(Instr::Bge { rs1, rs2, offset }),
-        0b110 => Some(Instr::Bltu { rs1, rs2, offset }),
-        0b111 => Some(Instr::Bgeu { rs1, rs2, offset }),
-        _ => None,
-    }
+    let condition = found(&BRANCHES, funct3, 0)?;
+    Some(Instr::Branch {
+        condition,
+        rs1,
+        rs2,
+        offset,
+    })
 }
 
 #[tactic(auto, unfolding(crate::specs::Table::load_of))]
 fn load(funct3: u32, rd: Reg, rs1: Reg, imm: Immediate) -> Option<Instr>
     ensures { result ≡ load_of funct3 rd rs1 imm }
 {
-    match funct3 {
-        0b000 => Some(Instr::Lb { rd, rs1, imm }),
-        0b001 => Some(Instr::Lh { rd, rs1, imm }),
-        0b010 => Some(Instr::Lw { rd, rs1, imm }),
-        0b100 => Some(Instr::Lbu { rd, rs1, imm }),
-        0b101 => Some(Instr::Lhu { rd, rs1, imm }),
-        _ => None,
-    }
+    let operator = found(&LOADS, funct3, 0)?;
+    Some(Instr::Load {
+        operator,
+        rd,
+        rs1,
+        imm,
+    })
 }
 
 #[tactic(auto, unfolding(crate::specs::Table::store_of))]
 fn store(funct3: u32, rs1: Reg, rs2: Reg, imm: Immediate) -> Option<Instr>
     ensures { result ≡ store_of funct3 rs1 rs2 imm }
 {
-    match funct3 {
-        0b000 => Some(Instr::Sb { rs1, rs2, imm }),
-        0b001 => Some(Instr::Sh { rs1, rs2, imm }),
-        0b010 => Some(Instr::Sw { rs1, rs2, imm }),
-        _ => None,
-    }
+    let width = found(&STORES, funct3, 0)?;
+    Some(Instr::Store {
+        width,
+        rs1,
+        rs2,
+        imm,
+    })
 }
 
-/// The shift by an immediate of a funct3, 001 or else 101, and a funct7.
 #[tactic(auto, unfolding(crate::specs::Table::shift_of))]
 fn shift(funct3: u32, funct7: u32, rd: Reg, rs1: Reg, amount: ShiftAmount) -> Option<Instr>
     ensures { result ≡ shift_of funct3 funct7 rd rs1 amount }
 {
-    match funct7 {
-        0b0000000 if funct3 == 0b001 => Some(Instr::Slli { rd, rs1, amount }),
-        0b0000000 => Some(Instr::Srli { rd, rs1, amount }),
-        0b0100000 if funct3 != 0b001 => Some(Instr::Srai { rd, rs1, amount }),
-        _ => None,
-    }
+    let operator = found(&SHIFTS, funct3, funct7)?;
+    Some(Instr::Shift {
+        operator,
+        rd,
+        rs1,
+        amount,
+    })
 }
 
-/// The operation on a register and an immediate of a funct3 other than those of the shifts.
 #[tactic(auto, unfolding(crate::specs::Table::immediate_of))]
 fn immediate_operation(funct3: u32, rd: Reg, rs1: Reg, imm: Immediate) -> Option<Instr>
     ensures { result ≡ immediate_of funct3 rd rs1 imm }
 {
-    match funct3 {
-        0b000 => Some(Instr::Addi { rd, rs1, imm }),
-        0b010 => Some(Instr::Slti { rd, rs1, imm }),
-        0b011 => Some(Instr::Sltiu { rd, rs1, imm }),
-        0b100 => Some(Instr::Xori { rd, rs1, imm }),
-        0b110 => Some(Instr::Ori { rd, rs1, imm }),
-        0b111 => Some(Instr::Andi { rd, rs1, imm }),
-        _ => None,
-    }
+    let operator = found(&IMMEDIATES, funct3, 0)?;
+    Some(Instr::Immediate {
+        operator,
+        rd,
+        rs1,
+        imm,
+    })
 }
 
 #[tactic(auto, unfolding(crate::specs::Table::register_of))]
 fn register_operation(funct3: u32, funct7: u32, rd: Reg, rs1: Reg, rs2: Reg) -> Option<Instr>
     ensures { result ≡ register_of funct3 funct7 rd rs1 rs2 }
 {
-    match funct7 {
-        0b0000000 => base_operation(funct3, rd, rs1, rs2),
-        0b0100000 => alternate_operation(funct3, rd, rs1, rs2),
-        0b0000001 => multiplication(funct3, rd, rs1, rs2),
-        _ => None,
-    }
-}
-
-/// The operation on two registers of a funct3, with funct7 0000000.
-#[tactic(auto, unfolding(crate::specs::Table::base_of))]
-fn base_operation(funct3: u32, rd: Reg, rs1: Reg, rs2: Reg) -> Option<Instr>
-    ensures { result ≡ base_of funct3 rd rs1 rs2 }
-{
-    match funct3 {
-        0b000 => Some(Instr::Add { rd, rs1, rs2 }),
-        0b001 => Some(Instr::Sll { rd, rs1, rs2 }),
-        0b010 => Some(Instr::Slt { rd, rs1, rs2 }),
-        0b011 => Some(Instr::Sltu { rd, rs1, rs2 }),
-        0b100 => Some(Instr::Xor { rd, rs1, rs2 }),
-        0b101 => Some(Instr::Srl { rd, rs1, rs2 }),
-        0b110 => Some(Instr::Or { rd, rs1, rs2 }),
-        0b111 => Some(Instr::And { rd, rs1, rs2 }),
-        _ => None,
-    }
-}
-
-/// The operation on two registers of a funct3, with funct7 0100000.
-#[tactic(auto, unfolding(crate::specs::Table::alternate_of))]
-fn alternate_operation(funct3: u32, rd: Reg, rs1: Reg, rs2: Reg) -> Option<Instr>
-    ensures { result ≡ alternate_of funct3 rd rs1 rs2 }
-{
-    match funct3 {
-        0b000 => Some(Instr::Sub { rd, rs1, rs2 }),
-        0b101 => Some(Instr::Sra { rd, rs1, rs2 }),
-        _ => None,
-    }
-}
-
-/// The operation of the M extension of a funct3.
-#[tactic(auto, unfolding(crate::specs::Table::multiply_of))]
-fn multiplication(funct3: u32, rd: Reg, rs1: Reg, rs2: Reg) -> Option<Instr>
-    ensures { result ≡ multiply_of funct3 rd rs1 rs2 }
-{
-    match funct3 {
-        0b000 => Some(Instr::Mul { rd, rs1, rs2 }),
-        0b001 => Some(Instr::Mulh { rd, rs1, rs2 }),
-        0b010 => Some(Instr::Mulhsu { rd, rs1, rs2 }),
-        0b011 => Some(Instr::Mulhu { rd, rs1, rs2 }),
-        0b100 => Some(Instr::Div { rd, rs1, rs2 }),
-        0b101 => Some(Instr::Divu { rd, rs1, rs2 }),
-        0b110 => Some(Instr::Rem { rd, rs1, rs2 }),
-        0b111 => Some(Instr::Remu { rd, rs1, rs2 }),
-        _ => None,
-    }
+    let operator = found(&REGISTERS, funct3, funct7)?;
+    Some(Instr::Register {
+        operator,
+        rd,
+        rs1,
+        rs2,
+    })
 }

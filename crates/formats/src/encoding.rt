@@ -6,6 +6,7 @@ ghost use Rattle.formats.specs.Table.{instr_of};
 
 use crate::fields::{BranchOffset, Immediate, JumpOffset, Reg, ShiftAmount, Upper};
 use crate::instr::Instr;
+use crate::table::{Row, branch_row, immediate_row, load_row, register_row, shift_row, store_row};
 
 /// The word that means the instruction. FENCE is spelled 0x0FF0000F, the fence of all accesses, and FENCE.I 0x0000100F, whose
 /// unused fields are 0.
@@ -31,47 +32,42 @@ fn spelling(i: Instr) -> u32
         Instr::Auipc { rd, imm } => u_type(0b0010111, rd, imm),
         Instr::Jal { rd, offset } => j_type(rd, offset),
         Instr::Jalr { rd, rs1, imm } => i_type(0b1100111, 0b000, rd, rs1, imm),
-        Instr::Beq { rs1, rs2, offset } => b_type(0b000, rs1, rs2, offset),
-        Instr::Bne { rs1, rs2, offset } => b_type(0b001, rs1, rs2, offset),
-        Instr::Blt { rs1, rs2, offset } => b_type(0b100, rs1, rs2, offset),
-        Instr::Bge { rs1, rs2, offset } => b_type(0b101, rs1, rs2, offset),
-        Instr::Bltu { rs1, rs2, offset } => b_type(0b110, rs1, rs2, offset),
-        Instr::Bgeu { rs1, rs2, offset } => b_type(0b111, rs1, rs2, offset),
-        Instr::Lb { rd, rs1, imm } => i_type(0b0000011, 0b000, rd, rs1, imm),
-        Instr::Lh { rd, rs1, imm } => i_type(0b0000011, 0b001, rd, rs1, imm),
-        Instr::Lw { rd, rs1, imm } => i_type(0b0000011, 0b010, rd, rs1, imm),
-        Instr::Lbu { rd, rs1, imm } => i_type(0b0000011, 0b100, rd, rs1, imm),
-        Instr::Lhu { rd, rs1, imm } => i_type(0b0000011, 0b101, rd, rs1, imm),
-        Instr::Sb { rs1, rs2, imm } => s_type(0b000, rs1, rs2, imm),
-        Instr::Sh { rs1, rs2, imm } => s_type(0b001, rs1, rs2, imm),
-        Instr::Sw { rs1, rs2, imm } => s_type(0b010, rs1, rs2, imm),
-        Instr::Addi { rd, rs1, imm } => i_type(0b0010011, 0b000, rd, rs1, imm),
-        Instr::Slti { rd, rs1, imm } => i_type(0b0010011, 0b010, rd, rs1, imm),
-        Instr::Sltiu { rd, rs1, imm } => i_type(0b0010011, 0b011, rd, rs1, imm),
-        Instr::Xori { rd, rs1, imm } => i_type(0b0010011, 0b100, rd, rs1, imm),
-        Instr::Ori { rd, rs1, imm } => i_type(0b0010011, 0b110, rd, rs1, imm),
-        Instr::Andi { rd, rs1, imm } => i_type(0b0010011, 0b111, rd, rs1, imm),
-        Instr::Slli { rd, rs1, amount } => shift(0b0000000, 0b001, rd, rs1, amount),
-        Instr::Srli { rd, rs1, amount } => shift(0b0000000, 0b101, rd, rs1, amount),
-        Instr::Srai { rd, rs1, amount } => shift(0b0100000, 0b101, rd, rs1, amount),
-        Instr::Add { rd, rs1, rs2 } => r_type(0b0000000, 0b000, rd, rs1, rs2),
-        Instr::Sll { rd, rs1, rs2 } => r_type(0b0000000, 0b001, rd, rs1, rs2),
-        Instr::Slt { rd, rs1, rs2 } => r_type(0b0000000, 0b010, rd, rs1, rs2),
-        Instr::Sltu { rd, rs1, rs2 } => r_type(0b0000000, 0b011, rd, rs1, rs2),
-        Instr::Xor { rd, rs1, rs2 } => r_type(0b0000000, 0b100, rd, rs1, rs2),
-        Instr::Srl { rd, rs1, rs2 } => r_type(0b0000000, 0b101, rd, rs1, rs2),
-        Instr::Or { rd, rs1, rs2 } => r_type(0b0000000, 0b110, rd, rs1, rs2),
-        Instr::And { rd, rs1, rs2 } => r_type(0b0000000, 0b111, rd, rs1, rs2),
-        Instr::Sub { rd, rs1, rs2 } => r_type(0b0100000, 0b000, rd, rs1, rs2),
-        Instr::Sra { rd, rs1, rs2 } => r_type(0b0100000, 0b101, rd, rs1, rs2),
-        Instr::Mul { rd, rs1, rs2 } => r_type(0b0000001, 0b000, rd, rs1, rs2),
-        Instr::Mulh { rd, rs1, rs2 } => r_type(0b0000001, 0b001, rd, rs1, rs2),
-        Instr::Mulhsu { rd, rs1, rs2 } => r_type(0b0000001, 0b010, rd, rs1, rs2),
-        Instr::Mulhu { rd, rs1, rs2 } => r_type(0b0000001, 0b011, rd, rs1, rs2),
-        Instr::Div { rd, rs1, rs2 } => r_type(0b0000001, 0b100, rd, rs1, rs2),
-        Instr::Divu { rd, rs1, rs2 } => r_type(0b0000001, 0b101, rd, rs1, rs2),
-        Instr::Rem { rd, rs1, rs2 } => r_type(0b0000001, 0b110, rd, rs1, rs2),
-        Instr::Remu { rd, rs1, rs2 } => r_type(0b0000001, 0b111, rd, rs1, rs2),
+        Instr::Branch {
+            condition,
+            rs1,
+            rs2,
+            offset,
+        } => b_type(branch_row(condition).funct3, rs1, rs2, offset),
+        Instr::Load {
+            operator,
+            rd,
+            rs1,
+            imm,
+        } => i_type(0b0000011, load_row(operator).funct3, rd, rs1, imm),
+        Instr::Store {
+            width,
+            rs1,
+            rs2,
+            imm,
+        } => s_type(store_row(width).funct3, rs1, rs2, imm),
+        Instr::Immediate {
+            operator,
+            rd,
+            rs1,
+            imm,
+        } => i_type(0b0010011, immediate_row(operator).funct3, rd, rs1, imm),
+        Instr::Shift {
+            operator,
+            rd,
+            rs1,
+            amount,
+        } => shift(shift_row(operator), rd, rs1, amount),
+        Instr::Register {
+            operator,
+            rd,
+            rs1,
+            rs2,
+        } => r_type(register_row(operator), rd, rs1, rs2),
         Instr::Fence => 0x0FF0_000F,
         Instr::FenceI => 0x0000_100F,
         Instr::Ecall => 0x0000_0073,
@@ -129,31 +125,31 @@ fn jump_offset(offset: JumpOffset) -> u32
 }
 
 /// An operation on two registers.
-fn r_type(funct7: u32, funct3: u32, rd: Reg, rs1: Reg, rs2: Reg) -> u32
-    requires funct7 { funct7 < 128 }
-    requires funct3 { funct3 < 8 }
-    ensures { IsR result funct3 funct7 rd rs1 rs2 }
+fn r_type(row: Row, rd: Reg, rs1: Reg, rs2: Reg) -> u32
+    requires funct7 { row.funct7 < 128 }
+    requires funct3 { row.funct3 < 8 }
+    ensures { IsR result row.funct3 row.funct7 rd rs1 rs2 }
 {
     word(
-        (funct7 << 5) + register(rs2),
+        (row.funct7 << 5) + register(rs2),
         register(rs1),
-        funct3,
+        row.funct3,
         register(rd),
         0b0110011,
     )
 }
 
 /// A shift by an immediate, whose amount stands in the place of rs2.
-fn shift(funct7: u32, funct3: u32, rd: Reg, rs1: Reg, amount: ShiftAmount) -> u32
-    requires funct7 { funct7 < 128 }
-    requires funct3 { funct3 < 8 }
-    ensures { IsShift result funct3 funct7 rd rs1 amount }
+fn shift(row: Row, rd: Reg, rs1: Reg, amount: ShiftAmount) -> u32
+    requires funct7 { row.funct7 < 128 }
+    requires funct3 { row.funct3 < 8 }
+    ensures { IsShift result row.funct3 row.funct7 rd rs1 amount }
 {
     let amount = u32::from(amount.value());
     word(
-        (funct7 << 5) + amount,
+        (row.funct7 << 5) + amount,
         register(rs1),
-        funct3,
+        row.funct3,
         register(rd),
         0b0010011,
     )

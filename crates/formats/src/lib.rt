@@ -1,5 +1,5 @@
-//! Instruction words of RV32IM, both ways, and instructions as text. Read `Instr` first: it has a variant for each row of the ISA's
-//! table, and the types of its fields keep them in range. `decode` and `encode` keep to that table.
+//! Instruction words of RV32IM, both ways, and instructions as text. Read `Instr` first: it has a variant for each
+//! format, with an operator where the format has several, and the types of its fields keep them in range. `table.rt` has the rows of the ISA's table. `decode` and `encode` keep to that table.
 #![tactic(auto)]
 
 mod constructors;
@@ -8,6 +8,8 @@ mod encoding;
 mod fields;
 mod instr;
 mod laws;
+mod operators;
+mod table;
 mod text;
 
 pub use constructors::FieldFault;
@@ -16,3 +18,4 @@ pub use encoding::encode;
 pub use fields::{BranchOffset, Immediate, JumpOffset, Reg, ShiftAmount, Upper};
 pub use instr::Instr;
 pub use laws::meanings;
+pub use operators::{Arithmetic, Condition, ImmediateOperator, LoadOperator, ShiftOperator};

@@ -1,11 +1,11 @@
 //! How registers and instructions are written.
 ghost use Rattle.std.specs.Prelude.{◌≡◌, ◌++◌, [], Some};
 ghost use Rattle.std.specs.Fmt.{WritesOnOk, signed_decimal};
-ghost use Rattle.formats.specs.Operands.{operands_text, mnemonic_of, operands_of};
-ghost use Rattle.formats.specs.Text.{register_name, text_of, with_two, with_registers, with_number, with_address, with_upper};
+ghost use Rattle.formats.specs.Text.{register_name, text_of, mnemonic_of, operands_text, with_two, with_three, with_number, with_address, with_upper};
 
-use crate::fields::{BranchOffset, Immediate, JumpOffset, Reg, ShiftAmount, Upper};
+use crate::fields::Reg;
 use crate::instr::Instr;
+use crate::table::{branch_row, immediate_row, load_row, register_row, shift_row, store_row};
 use std::fmt;
 
 impl Reg {
@@ -60,43 +60,38 @@ impl fmt::Display for Reg {
     }
 }
 
-/// The operands of an instruction, by the form in which they are written.
+/// The operands of an instruction with a blank before them; nothing where there are none.
 #[derive(Clone, Copy)]
-enum Operands {
-    /// `rd,rs1,rs2`.
-    Registers(Reg, Reg, Reg),
-    /// `rd,rs1,imm`.
-    Number(Reg, Reg, Immediate),
-    /// `rs1,rs2,offset`.
-    Branch(Reg, Reg, BranchOffset),
-    /// `rd,rs1,amount`.
-    Amount(Reg, Reg, ShiftAmount),
-    /// `register,imm(rs1)`.
-    Address(Reg, Reg, Immediate),
-    /// `rd,0x` and the upper bits.
-    Upper(Reg, Upper),
-    /// `rd,offset`.
-    Jump(Reg, JumpOffset),
-    /// Nothing.
-    None,
+struct Operands {
+    instr: Instr,
 }
 
-/// The operands with a blank before them; nothing where there are none.
 impl fmt::Display for Operands {
-    ghost output = { λ o. Some (operands_text o) };
+    ghost output = { λ o. Some (operands_text o.instr) };
 
     fn fmt<W: fmt::Write>(&self, f: &mut fmt::Formatter<W>) -> fmt::Result {
-        match *self {
-            Operands::Registers(rd, rs1, rs2) => write_registers(f, rd, rs1, rs2),
-            Operands::Number(rd, rs1, imm) => write_number(f, rd, rs1, imm.value()),
-            Operands::Branch(rs1, rs2, offset) => write_number(f, rs1, rs2, offset.value()),
-            Operands::Amount(rd, rs1, amount) => {
-                write_number(f, rd, rs1, i32::from(amount.value()))
+        match self.instr {
+            Instr::Lui { rd, imm } | Instr::Auipc { rd, imm } => write_upper(f, rd, imm.value()),
+            Instr::Jal { rd, offset } => write_jump(f, rd, offset.value()),
+            Instr::Jalr { rd, rs1, imm } | Instr::Load { rd, rs1, imm, .. } => {
+                write_address(f, rd, rs1, imm.value())
             },
-            Operands::Address(register, rs1, imm) => write_address(f, register, rs1, imm.value()),
-            Operands::Upper(rd, imm) => write_upper(f, rd, imm.value()),
-            Operands::Jump(rd, offset) => write_jump(f, rd, offset.value()),
-            Operands::None => Ok(()),
+            Instr::Branch {
+                rs1,
+                rs2,
+                offset,
+                ..
+            } => write_number(f, rs1, rs2, offset.value()),
+            Instr::Store { rs1, rs2, imm, .. } => write_address(f, rs2, rs1, imm.value()),
+            Instr::Immediate { rd, rs1, imm, .. } => write_number(f, rd, rs1, imm.value()),
+            Instr::Shift {
+                rd,
+                rs1,
+                amount,
+                ..
+            } => { write_number(f, rd, rs1, i32::from(amount.value())) },
+            Instr::Register { rd, rs1, rs2, .. } => write_registers(f, rd, rs1, rs2),
+            Instr::Fence | Instr::FenceI | Instr::Ecall | Instr::Ebreak => Ok(()),
         }
     }
 }
@@ -108,7 +103,7 @@ fn write_registers<W: fmt::Write>(
     rs1: Reg,
     rs2: Reg,
 ) -> fmt::Result
-    ensures { WritesOnOk W.write_str_gives f.old result (with_registers [] rd rs1 rs2) f.new }
+    ensures { WritesOnOk W.write_str_gives f.old result (with_three (register_name rd) (register_name rs1) (register_name rs2)) f.new }
 {
     write!(f, " {rd},{rs1},{rs2}")
 }
@@ -120,7 +115,7 @@ fn write_number<W: fmt::Write>(
     b: Reg,
     number: i32,
 ) -> fmt::Result
-    ensures { WritesOnOk W.write_str_gives f.old result (with_number [] a b number) f.new }
+    ensures { WritesOnOk W.write_str_gives f.old result (with_number a b number) f.new }
 {
     write!(f, " {a},{b},{number}")
 }
@@ -132,21 +127,21 @@ fn write_address<W: fmt::Write>(
     rs1: Reg,
     imm: i32,
 ) -> fmt::Result
-    ensures { WritesOnOk W.write_str_gives f.old result (with_address [] register rs1 imm) f.new }
+    ensures { WritesOnOk W.write_str_gives f.old result (with_address register rs1 imm) f.new }
 {
     write!(f, " {register},{imm}({rs1})")
 }
 
 /// Writes ` rd,0x` and the upper bits in hexadecimal.
 fn write_upper<W: fmt::Write>(f: &mut fmt::Formatter<W>, rd: Reg, imm: u32) -> fmt::Result
-    ensures { WritesOnOk W.write_str_gives f.old result (with_upper [] rd imm) f.new }
+    ensures { WritesOnOk W.write_str_gives f.old result (with_upper rd imm) f.new }
 {
     write!(f, " {rd},0x{imm:x}")
 }
 
 /// Writes ` rd,offset`.
 fn write_jump<W: fmt::Write>(f: &mut fmt::Formatter<W>, rd: Reg, offset: i32) -> fmt::Result
-    ensures { WritesOnOk W.write_str_gives f.old result (with_two [] (register_name rd) (signed_decimal offset)) f.new }
+    ensures { WritesOnOk W.write_str_gives f.old result (with_two (register_name rd) (signed_decimal offset)) f.new }
 {
     write!(f, " {rd},{offset}")
 }
@@ -160,103 +155,16 @@ impl Instr {
             Instr::Auipc { .. } => "auipc",
             Instr::Jal { .. } => "jal",
             Instr::Jalr { .. } => "jalr",
-            Instr::Beq { .. } => "beq",
-            Instr::Bne { .. } => "bne",
-            Instr::Blt { .. } => "blt",
-            Instr::Bge { .. } => "bge",
-            Instr::Bltu { .. } => "bltu",
-            Instr::Bgeu { .. } => "bgeu",
-            Instr::Lb { .. } => "lb",
-            Instr::Lh { .. } => "lh",
-            Instr::Lw { .. } => "lw",
-            Instr::Lbu { .. } => "lbu",
-            Instr::Lhu { .. } => "lhu",
-            Instr::Sb { .. } => "sb",
-            Instr::Sh { .. } => "sh",
-            Instr::Sw { .. } => "sw",
-            Instr::Addi { .. } => "addi",
-            Instr::Slti { .. } => "slti",
-            Instr::Sltiu { .. } => "sltiu",
-            Instr::Xori { .. } => "xori",
-            Instr::Ori { .. } => "ori",
-            Instr::Andi { .. } => "andi",
-            Instr::Slli { .. } => "slli",
-            Instr::Srli { .. } => "srli",
-            Instr::Srai { .. } => "srai",
-            Instr::Add { .. } => "add",
-            Instr::Sub { .. } => "sub",
-            Instr::Sll { .. } => "sll",
-            Instr::Slt { .. } => "slt",
-            Instr::Sltu { .. } => "sltu",
-            Instr::Xor { .. } => "xor",
-            Instr::Srl { .. } => "srl",
-            Instr::Sra { .. } => "sra",
-            Instr::Or { .. } => "or",
-            Instr::And { .. } => "and",
-            Instr::Mul { .. } => "mul",
-            Instr::Mulh { .. } => "mulh",
-            Instr::Mulhsu { .. } => "mulhsu",
-            Instr::Mulhu { .. } => "mulhu",
-            Instr::Div { .. } => "div",
-            Instr::Divu { .. } => "divu",
-            Instr::Rem { .. } => "rem",
-            Instr::Remu { .. } => "remu",
+            Instr::Branch { condition, .. } => branch_row(condition).mnemonic,
+            Instr::Load { operator, .. } => load_row(operator).mnemonic,
+            Instr::Store { width, .. } => store_row(width).mnemonic,
+            Instr::Immediate { operator, .. } => immediate_row(operator).mnemonic,
+            Instr::Shift { operator, .. } => shift_row(operator).mnemonic,
+            Instr::Register { operator, .. } => register_row(operator).mnemonic,
             Instr::Fence => "fence",
             Instr::FenceI => "fence.i",
             Instr::Ecall => "ecall",
             Instr::Ebreak => "ebreak",
-        }
-    }
-
-    fn operands(self) -> Operands
-        ensures { result ≡ operands_of self }
-    {
-        match self {
-            Instr::Lui { rd, imm } | Instr::Auipc { rd, imm } => Operands::Upper(rd, imm),
-            Instr::Jal { rd, offset } => Operands::Jump(rd, offset),
-            Instr::Jalr { rd, rs1, imm }
-            | Instr::Lb { rd, rs1, imm }
-            | Instr::Lh { rd, rs1, imm }
-            | Instr::Lw { rd, rs1, imm }
-            | Instr::Lbu { rd, rs1, imm }
-            | Instr::Lhu { rd, rs1, imm } => Operands::Address(rd, rs1, imm),
-            Instr::Beq { rs1, rs2, offset }
-            | Instr::Bne { rs1, rs2, offset }
-            | Instr::Blt { rs1, rs2, offset }
-            | Instr::Bge { rs1, rs2, offset }
-            | Instr::Bltu { rs1, rs2, offset }
-            | Instr::Bgeu { rs1, rs2, offset } => Operands::Branch(rs1, rs2, offset),
-            Instr::Sb { rs1, rs2, imm }
-            | Instr::Sh { rs1, rs2, imm }
-            | Instr::Sw { rs1, rs2, imm } => Operands::Address(rs2, rs1, imm),
-            Instr::Addi { rd, rs1, imm }
-            | Instr::Slti { rd, rs1, imm }
-            | Instr::Sltiu { rd, rs1, imm }
-            | Instr::Xori { rd, rs1, imm }
-            | Instr::Ori { rd, rs1, imm }
-            | Instr::Andi { rd, rs1, imm } => Operands::Number(rd, rs1, imm),
-            Instr::Slli { rd, rs1, amount }
-            | Instr::Srli { rd, rs1, amount }
-            | Instr::Srai { rd, rs1, amount } => Operands::Amount(rd, rs1, amount),
-            Instr::Add { rd, rs1, rs2 }
-            | Instr::Sub { rd, rs1, rs2 }
-            | Instr::Sll { rd, rs1, rs2 }
-            | Instr::Slt { rd, rs1, rs2 }
-            | Instr::Sltu { rd, rs1, rs2 }
-            | Instr::Xor { rd, rs1, rs2 }
-            | Instr::Srl { rd, rs1, rs2 }
-            | Instr::Sra { rd, rs1, rs2 }
-            | Instr::Or { rd, rs1, rs2 }
-            | Instr::And { rd, rs1, rs2 }
-            | Instr::Mul { rd, rs1, rs2 }
-            | Instr::Mulh { rd, rs1, rs2 }
-            | Instr::Mulhsu { rd, rs1, rs2 }
-            | Instr::Mulhu { rd, rs1, rs2 }
-            | Instr::Div { rd, rs1, rs2 }
-            | Instr::Divu { rd, rs1, rs2 }
-            | Instr::Rem { rd, rs1, rs2 }
-            | Instr::Remu { rd, rs1, rs2 } => Operands::Registers(rd, rs1, rs2),
-            Instr::Fence | Instr::FenceI | Instr::Ecall | Instr::Ebreak => Operands::None,
         }
     }
 }
@@ -266,10 +174,9 @@ impl Instr {
 impl fmt::Display for Instr {
     ghost output = { λ i. Some (text_of i) };
 
-    #[tactic(auto, using(crate::proofs::Texts::text_in_parts))]
     fn fmt<W: fmt::Write>(&self, f: &mut fmt::Formatter<W>) -> fmt::Result {
         let mnemonic = self.mnemonic();
-        let operands = self.operands();
+        let operands = Operands { instr: *self };
         write!(f, "{mnemonic}{operands}")
     }
 }

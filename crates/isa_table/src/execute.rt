@@ -1,18 +1,21 @@
 //! What each instruction does to the registers and a memory.
 ghost use Rattle.std.specs.Prelude.{◌≡◌, ◌+◌, ◌-◌, ◌*◌, ◌%◌, ◌^◌, slice_index};
-ghost use Rattle.memory_model.specs.Access.{size};
+ghost use Rattle.formats.specs.Operators.{immediate_arithmetic, width_of};
 ghost use Rattle.machine_model.specs.Arithmetic as model;
 ghost use Rattle.machine_model.specs.Effects as effects;
-ghost use Rattle.machine_model.specs.Effects.{effect, put, fault_cause, links, branches, loads, stores, as_it_is};
+ghost use Rattle.machine_model.specs.Effects.{effect, put, fault_cause, extended as extended_of, links, branches, loads, stores};
 ghost use Rattle.memory_model.specs.Memory.{Memory};
 ghost use Rattle.machine_model.specs.States.{architectural};
 ghost use Rattle.isa_table.specs.Executes.{Executes};
-ghost use Rattle.isa_table.specs.Operations.{holds_of, value_of};
+ghost use Rattle.machine_model.specs.Operators.{holds_of, value_of};
 
-use crate::arithmetic::{moved, shifted_right_signed, sign_extended};
-use crate::operation::{Arithmetic, Condition, computed, holds};
+use crate::arithmetic::{moved, sign_extended};
+use crate::operation::{computed, holds};
 use crate::regs::Regs;
-use formats::{BranchOffset, Immediate, Instr, Reg};
+use formats::{
+    Arithmetic, BranchOffset, Condition, Immediate, ImmediateOperator, Instr, LoadOperator, Reg,
+    ShiftAmount,
+};
 use machine_model::{Bus, BusFault, Cause, Width, word_of_immediate};
 
 /// What an instruction came to.
@@ -62,16 +65,32 @@ fn by_registers(regs: &mut Regs, operation: Arithmetic, rd: Reg, rs1: Reg, rs2: 
 #[inline(always)]
 fn by_immediate(
     regs: &mut Regs,
-    operation: Arithmetic,
+    operator: ImmediateOperator,
     rd: Reg,
     rs1: Reg,
     imm: Immediate,
 ) -> Outcome
     ensures answer { result ≡ Outcome.Next }
-    ensures x { regs.new.x ≡ put regs.old.x rd (value_of operation (slice_index regs.old.x rs1) (model.as_word imm)) }
+    ensures x { regs.new.x ≡ put regs.old.x rd (value_of (immediate_arithmetic operator) (slice_index regs.old.x rs1) (model.as_word imm)) }
     ensures pc { regs.new.pc ≡ (regs.old.pc + 4) % 2 ^ 32 }
 {
-    let value = computed(operation, regs.get(rs1), word_of_immediate(imm));
+    let value = computed(operator.arithmetic(), regs.get(rs1), word_of_immediate(imm));
+    write(regs, rd, value)
+}
+
+#[inline(always)]
+fn by_amount(
+    regs: &mut Regs,
+    operation: Arithmetic,
+    rd: Reg,
+    rs1: Reg,
+    amount: ShiftAmount,
+) -> Outcome
+    ensures answer { result ≡ Outcome.Next }
+    ensures x { regs.new.x ≡ put regs.old.x rd (value_of operation (slice_index regs.old.x rs1) amount) }
+    ensures pc { regs.new.pc ≡ (regs.old.pc + 4) % 2 ^ 32 }
+{
+    let value = computed(operation, regs.get(rs1), u32::from(amount.value()));
     write(regs, rd, value)
 }
 
@@ -149,45 +168,35 @@ fn cause_of(fault: BusFault) -> Cause
     }
 }
 
+/// The word of a loaded value.
+#[inline]
+fn extended(operator: LoadOperator, value: u32) -> u32
+    ensures { result ≡ extended_of operator value }
+{
+    match operator {
+        LoadOperator::Lb => sign_extended(value, Width::Byte),
+        LoadOperator::Lh => sign_extended(value, Width::Half),
+        LoadOperator::Lw | LoadOperator::Lbu | LoadOperator::Lhu => value,
+    }
+}
+
 #[inline]
 fn load<B: Bus>(
     regs: &mut Regs,
     bus: &B,
+    operator: LoadOperator,
     rd: Reg,
     base: Reg,
     offset: Immediate,
-    width: Width,
 ) -> Outcome
     ensures { Executes
-        (loads (architectural regs.old.x regs.old.pc (B.memory bus.now)) rd (effects.moved (slice_index regs.old.x base) offset) width as_it_is)
+        (loads (architectural regs.old.x regs.old.pc (B.memory bus.now)) rd (effects.moved (slice_index regs.old.x base) offset) (width_of operator) (extended_of operator))
         result
         (architectural regs.old.x regs.old.pc (B.memory bus.now))
         (architectural regs.new.x regs.new.pc (B.memory bus.now)) }
 {
-    match bus.load(address(regs, base, offset), width) {
-        Ok(value) => write(regs, rd, value),
-        Err(fault) => Outcome::Trap(cause_of(fault)),
-    }
-}
-
-/// As `load`, sign-extended.
-#[inline]
-fn load_signed<B: Bus>(
-    regs: &mut Regs,
-    bus: &B,
-    rd: Reg,
-    base: Reg,
-    offset: Immediate,
-    width: Width,
-) -> Outcome
-    ensures { Executes
-        (loads (architectural regs.old.x regs.old.pc (B.memory bus.now)) rd (effects.moved (slice_index regs.old.x base) offset) width (model.sign_extended (8 * size width)))
-        result
-        (architectural regs.old.x regs.old.pc (B.memory bus.now))
-        (architectural regs.new.x regs.new.pc (B.memory bus.now)) }
-{
-    match bus.load(address(regs, base, offset), width) {
-        Ok(value) => write(regs, rd, sign_extended(value, width)),
+    match bus.load(address(regs, base, offset), operator.width()) {
+        Ok(value) => write(regs, rd, extended(operator, value)),
         Err(fault) => Outcome::Trap(cause_of(fault)),
     }
 }
@@ -241,51 +250,42 @@ pub fn exec_ref<B: Bus>(regs: &mut Regs, bus: &mut B, i: &Instr) -> Outcome
         Instr::Auipc { rd, imm } => write(regs, rd, regs.pc.wrapping_add(imm.value() << 12)),
         Instr::Jal { rd, offset } => link(regs, rd, moved(regs.pc, offset.value())),
         Instr::Jalr { rd, rs1, imm } => link_to_register(regs, rd, rs1, imm),
-        Instr::Beq { rs1, rs2, offset } => branch(regs, Condition::Equal, rs1, rs2, offset),
-        Instr::Bne { rs1, rs2, offset } => branch(regs, Condition::NotEqual, rs1, rs2, offset),
-        Instr::Blt { rs1, rs2, offset } => branch(regs, Condition::Less, rs1, rs2, offset),
-        Instr::Bge { rs1, rs2, offset } => branch(regs, Condition::NotLess, rs1, rs2, offset),
-        Instr::Bltu { rs1, rs2, offset } => branch(regs, Condition::Below, rs1, rs2, offset),
-        Instr::Bgeu { rs1, rs2, offset } => branch(regs, Condition::NotBelow, rs1, rs2, offset),
-        Instr::Lb { rd, rs1, imm } => load_signed(regs, bus, rd, rs1, imm, Width::Byte),
-        Instr::Lh { rd, rs1, imm } => load_signed(regs, bus, rd, rs1, imm, Width::Half),
-        Instr::Lw { rd, rs1, imm } => load(regs, bus, rd, rs1, imm, Width::Word),
-        Instr::Lbu { rd, rs1, imm } => load(regs, bus, rd, rs1, imm, Width::Byte),
-        Instr::Lhu { rd, rs1, imm } => load(regs, bus, rd, rs1, imm, Width::Half),
-        Instr::Sb { rs1, rs2, imm } => store(regs, bus, rs2, rs1, imm, Width::Byte),
-        Instr::Sh { rs1, rs2, imm } => store(regs, bus, rs2, rs1, imm, Width::Half),
-        Instr::Sw { rs1, rs2, imm } => store(regs, bus, rs2, rs1, imm, Width::Word),
-        Instr::Addi { rd, rs1, imm } => by_immediate(regs, Arithmetic::Add, rd, rs1, imm),
-        Instr::Slti { rd, rs1, imm } => by_immediate(regs, Arithmetic::Slt, rd, rs1, imm),
-        Instr::Sltiu { rd, rs1, imm } => by_immediate(regs, Arithmetic::Sltu, rd, rs1, imm),
-        Instr::Xori { rd, rs1, imm } => by_immediate(regs, Arithmetic::Xor, rd, rs1, imm),
-        Instr::Ori { rd, rs1, imm } => by_immediate(regs, Arithmetic::Or, rd, rs1, imm),
-        Instr::Andi { rd, rs1, imm } => by_immediate(regs, Arithmetic::And, rd, rs1, imm),
-        Instr::Slli { rd, rs1, amount } => write(regs, rd, regs.get(rs1) << amount.value()),
-        Instr::Srli { rd, rs1, amount } => write(regs, rd, regs.get(rs1) >> amount.value()),
-        Instr::Srai { rd, rs1, amount } => write(
-            regs,
+        Instr::Branch {
+            condition,
+            rs1,
+            rs2,
+            offset,
+        } => branch(regs, condition, rs1, rs2, offset),
+        Instr::Load {
+            operator,
             rd,
-            shifted_right_signed(regs.get(rs1), u32::from(amount.value())),
-        ),
-        Instr::Add { rd, rs1, rs2 } => by_registers(regs, Arithmetic::Add, rd, rs1, rs2),
-        Instr::Sub { rd, rs1, rs2 } => by_registers(regs, Arithmetic::Sub, rd, rs1, rs2),
-        Instr::Sll { rd, rs1, rs2 } => by_registers(regs, Arithmetic::Sll, rd, rs1, rs2),
-        Instr::Slt { rd, rs1, rs2 } => by_registers(regs, Arithmetic::Slt, rd, rs1, rs2),
-        Instr::Sltu { rd, rs1, rs2 } => by_registers(regs, Arithmetic::Sltu, rd, rs1, rs2),
-        Instr::Xor { rd, rs1, rs2 } => by_registers(regs, Arithmetic::Xor, rd, rs1, rs2),
-        Instr::Srl { rd, rs1, rs2 } => by_registers(regs, Arithmetic::Srl, rd, rs1, rs2),
-        Instr::Sra { rd, rs1, rs2 } => by_registers(regs, Arithmetic::Sra, rd, rs1, rs2),
-        Instr::Or { rd, rs1, rs2 } => by_registers(regs, Arithmetic::Or, rd, rs1, rs2),
-        Instr::And { rd, rs1, rs2 } => by_registers(regs, Arithmetic::And, rd, rs1, rs2),
-        Instr::Mul { rd, rs1, rs2 } => by_registers(regs, Arithmetic::Mul, rd, rs1, rs2),
-        Instr::Mulh { rd, rs1, rs2 } => by_registers(regs, Arithmetic::Mulh, rd, rs1, rs2),
-        Instr::Mulhsu { rd, rs1, rs2 } => by_registers(regs, Arithmetic::Mulhsu, rd, rs1, rs2),
-        Instr::Mulhu { rd, rs1, rs2 } => by_registers(regs, Arithmetic::Mulhu, rd, rs1, rs2),
-        Instr::Div { rd, rs1, rs2 } => by_registers(regs, Arithmetic::Div, rd, rs1, rs2),
-        Instr::Divu { rd, rs1, rs2 } => by_registers(regs, Arithmetic::Divu, rd, rs1, rs2),
-        Instr::Rem { rd, rs1, rs2 } => by_registers(regs, Arithmetic::Rem, rd, rs1, rs2),
-        Instr::Remu { rd, rs1, rs2 } => by_registers(regs, Arithmetic::Remu, rd, rs1, rs2),
+            rs1,
+            imm,
+        } => load(regs, bus, operator, rd, rs1, imm),
+        Instr::Store {
+            width,
+            rs1,
+            rs2,
+            imm,
+        } => store(regs, bus, rs2, rs1, imm, width),
+        Instr::Immediate {
+            operator,
+            rd,
+            rs1,
+            imm,
+        } => by_immediate(regs, operator, rd, rs1, imm),
+        Instr::Shift {
+            operator,
+            rd,
+            rs1,
+            amount,
+        } => by_amount(regs, operator.arithmetic(), rd, rs1, amount),
+        Instr::Register {
+            operator,
+            rd,
+            rs1,
+            rs2,
+        } => by_registers(regs, operator, rd, rs1, rs2),
         Instr::Fence | Instr::FenceI => advance(regs),
         Instr::Ecall => Outcome::Call,
         Instr::Ebreak => Outcome::Trap(Cause::Breakpoint),

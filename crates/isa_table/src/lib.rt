@@ -12,5 +12,7 @@ pub use arithmetic::{
     quotient_signed, remainder, remainder_signed, shifted_right_signed, sign_extended,
 };
 pub use execute::{Outcome, exec, exec_ref};
+pub use formats::{Arithmetic, Condition};
 pub use machine_model::{Bus, BusFault, Cause, Width};
+pub use operation::{computed, holds};
 pub use regs::Regs;

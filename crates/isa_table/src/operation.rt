@@ -1,35 +1,12 @@
-//! The arithmetic of instructions on two words, and the conditions of branches. An operation of the crate `operations` is another
-//! thing: a decoded word.
+//! What the operations of instructions make of two words, and whether the conditions of branches hold of them.
 ghost use Rattle.std.specs.Prelude.{◌≡◌};
-ghost use Rattle.isa_table.specs.Operations.{holds_of, value_of};
+ghost use Rattle.machine_model.specs.Operators.{holds_of, value_of};
 
 use crate::arithmetic::{
     high_product, high_product_mixed, high_product_signed, is_less_signed, quotient,
     quotient_signed, remainder, remainder_signed, shifted_right_signed,
 };
-
-/// An operation on two words. An instruction with an immediate shares it with the one of two registers.
-#[derive(Clone, Copy)]
-pub enum Arithmetic {
-    Add,
-    Sub,
-    Sll,
-    Slt,
-    Sltu,
-    Xor,
-    Srl,
-    Sra,
-    Or,
-    And,
-    Mul,
-    Mulh,
-    Mulhsu,
-    Mulhu,
-    Div,
-    Divu,
-    Rem,
-    Remu,
-}
+use formats::{Arithmetic, Condition};
 
 /// The result of an operation on two words. Callers know the operation, so that the compiler leaves one arm of it.
 #[inline(always)]
@@ -56,17 +33,6 @@ pub fn computed(operation: Arithmetic, a: u32, b: u32) -> u32
         Arithmetic::Rem => remainder_signed(a, b),
         Arithmetic::Remu => remainder(a, b),
     }
-}
-
-/// The condition of a branch on two words.
-#[derive(Clone, Copy)]
-pub enum Condition {
-    Equal,
-    NotEqual,
-    Less,
-    NotLess,
-    Below,
-    NotBelow,
 }
 
 /// Whether a condition holds of two words. Callers know the condition, as they do in `computed`.

@@ -5,22 +5,19 @@ use Rattle.std.specs.List.{AllByRecursion}
 use Rattle.std.specs.FinMap.{get}
 use Rattle.formats.specs.Table.{instr_of}
 use Rattle.formats.specs.declared.instr.Instr.{Instr}
-use Rattle.formats.specs.declared.instr.Instr.TheVariants as instr
 use Rattle.memory_model.specs.Memory.{Memory, Cell}
 use Rattle.memory_model.specs.Access.{HoldsBytes, byte_of, fetched, low_bytes, put_bytes, size, stored, to_write, access_fault, with_byte}
-use Rattle.machine_model.specs.Effects.{ArchitecturalState, InstructionEffect, Becomes, Stops, effect, jumps, load_effect, store_effect, stores, reg}
+use Rattle.machine_model.specs.Effects.{ArchitecturalState, InstructionEffect, Becomes, Stops, effect, store_effect, stores}
 use Rattle.machine_model.specs.States.{State, Stepped, Goes, Halts, Ran, counted, by_instr, by_fetch, next, run}
 use Rattle.machine_model.specs.First.{byte_at, has_page, stack_cell, first_cell, first_state}
 use Rattle.machine_model.specs.Images.{Program}
 use Rattle.machine_model.specs.Replies.{replied, replied_by}
 use Rattle.memory_model.specs.declared.access.BusFault.{BusFault}
 use Rattle.memory_model.specs.declared.access.Width.{Width}
-use Rattle.memory_model.specs.declared.access.Width.TheVariants.{Byte, Half, Word}
 use Rattle.machine_model.specs.declared.image.Segment.{Segment}
 use Rattle.machine_model.specs.declared.reply.Reply.{Reply}
-use Rattle.machine_model.specs.declared.stop.Cause.TheVariants as cause
-use Rattle.machine_model.specs.declared.stop.Stop.TheVariants.{Trap}
 use Rattle.memory_model.proofs.Memories.{get-insert, get-memory_of}
+use Rattle.machine_model.proofs.Cases.{of_each}
 use Rattle.machine_model.proofs.Running.{run-zero, run-goes, run-halts}
 
 abbrev pub AreBytes : List ℕ → Type 0
@@ -53,17 +50,6 @@ abbrev MakesBytes : InstructionEffect → Type 0
 MakesBytes (Becomes h) = HoldsBytes h.memory
 MakesBytes (Stops stop) = Unit {0}
 
-jump_makes : (h : ArchitecturalState) (registers : List ℕ) (target : ℕ) → HoldsBytes h.memory → MakesBytes (jumps h registers target)
-jump_makes h registers target m = by (target % 4 == 0)
-  where
-    by : (b : Bool) → MakesBytes (if b then Becomes (record { registers = registers; pc = target; memory = h.memory }) else Stops (Trap cause.MisalignedTarget))
-    by true = m
-    by false = tt
-
-load_makes : (h : ArchitecturalState) (rd : ℕ) (extended : ℕ → ℕ) (r : Result ℕ BusFault) → HoldsBytes h.memory → MakesBytes (load_effect h rd extended r)
-load_makes h rd extended (Ok value) m = m
-load_makes h rd extended (Err fault) m = tt
-
 store_makes : (h : ArchitecturalState) (at : ℕ) (width : Width) (value : ℕ) → HoldsBytes h.memory → MakesBytes (stores h at width value)
 store_makes h at width value m = by (access_fault to_write h.memory at width)
   where
@@ -72,56 +58,11 @@ store_makes h at width value m = by (access_fault to_write h.memory at width)
     by (Some fault) = tt
 
 effect_makes : (i : Instr) (h : ArchitecturalState) → HoldsBytes h.memory → MakesBytes (effect i h)
-unfolding effect
-effect_makes (instr.Lui rd imm) h m = m
-effect_makes (instr.Auipc rd imm) h m = m
-effect_makes (instr.Jal rd offset) h m = jump_makes h _ _ m
-effect_makes (instr.Jalr rd rs1 imm) h m = jump_makes h _ _ m
-effect_makes (instr.Beq rs1 rs2 offset) h m = jump_makes h _ _ m
-effect_makes (instr.Bne rs1 rs2 offset) h m = jump_makes h _ _ m
-effect_makes (instr.Blt rs1 rs2 offset) h m = jump_makes h _ _ m
-effect_makes (instr.Bge rs1 rs2 offset) h m = jump_makes h _ _ m
-effect_makes (instr.Bltu rs1 rs2 offset) h m = jump_makes h _ _ m
-effect_makes (instr.Bgeu rs1 rs2 offset) h m = jump_makes h _ _ m
-effect_makes (instr.Lb rd rs1 imm) h m = load_makes h rd _ _ m
-effect_makes (instr.Lh rd rs1 imm) h m = load_makes h rd _ _ m
-effect_makes (instr.Lw rd rs1 imm) h m = load_makes h rd _ _ m
-effect_makes (instr.Lbu rd rs1 imm) h m = load_makes h rd _ _ m
-effect_makes (instr.Lhu rd rs1 imm) h m = load_makes h rd _ _ m
-effect_makes (instr.Sb rs1 rs2 imm) h m = store_makes h _ Byte (reg h rs2) m
-effect_makes (instr.Sh rs1 rs2 imm) h m = store_makes h _ Half (reg h rs2) m
-effect_makes (instr.Sw rs1 rs2 imm) h m = store_makes h _ Word (reg h rs2) m
-effect_makes (instr.Addi rd rs1 imm) h m = m
-effect_makes (instr.Slti rd rs1 imm) h m = m
-effect_makes (instr.Sltiu rd rs1 imm) h m = m
-effect_makes (instr.Xori rd rs1 imm) h m = m
-effect_makes (instr.Ori rd rs1 imm) h m = m
-effect_makes (instr.Andi rd rs1 imm) h m = m
-effect_makes (instr.Slli rd rs1 amount) h m = m
-effect_makes (instr.Srli rd rs1 amount) h m = m
-effect_makes (instr.Srai rd rs1 amount) h m = m
-effect_makes (instr.Add rd rs1 rs2) h m = m
-effect_makes (instr.Sub rd rs1 rs2) h m = m
-effect_makes (instr.Sll rd rs1 rs2) h m = m
-effect_makes (instr.Slt rd rs1 rs2) h m = m
-effect_makes (instr.Sltu rd rs1 rs2) h m = m
-effect_makes (instr.Xor rd rs1 rs2) h m = m
-effect_makes (instr.Srl rd rs1 rs2) h m = m
-effect_makes (instr.Sra rd rs1 rs2) h m = m
-effect_makes (instr.Or rd rs1 rs2) h m = m
-effect_makes (instr.And rd rs1 rs2) h m = m
-effect_makes (instr.Mul rd rs1 rs2) h m = m
-effect_makes (instr.Mulh rd rs1 rs2) h m = m
-effect_makes (instr.Mulhsu rd rs1 rs2) h m = m
-effect_makes (instr.Mulhu rd rs1 rs2) h m = m
-effect_makes (instr.Div rd rs1 rs2) h m = m
-effect_makes (instr.Divu rd rs1 rs2) h m = m
-effect_makes (instr.Rem rd rs1 rs2) h m = m
-effect_makes (instr.Remu rd rs1 rs2) h m = m
-effect_makes instr.Fence h m = m
-effect_makes instr.FenceI h m = m
-effect_makes instr.Ecall h m = tt
-effect_makes instr.Ebreak h m = tt
+effect_makes = of_each (λ i h e. HoldsBytes h.memory → MakesBytes e) (record {
+  becomes = λ i h registers pc m. m;
+  stops = λ i h stop apart m. tt;
+  stored = λ width rs1 rs2 imm h. store_makes h _ width _;
+})
 
 -- so does the memory of the state that comes next
 abbrev GoesToBytes : Stepped → Type 0

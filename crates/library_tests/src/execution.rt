@@ -1,9 +1,11 @@
 //! Tests of `isa_table`: instructions on a memory of 64 bytes.
 use crate::asserting::assert_row;
 use crate::flat_bus::FlatBus;
-use formats::{Immediate, Instr, Reg, ShiftAmount};
+use formats::{
+    Arithmetic, Immediate, ImmediateOperator, Instr, LoadOperator, Reg, ShiftAmount, ShiftOperator,
+};
 use isa_table::{Outcome, Regs, exec};
-use machine_model::Cause;
+use machine_model::{Cause, Width};
 use std::process::Abort;
 
 /// The least signed number.
@@ -28,6 +30,39 @@ fn three() -> (Reg, Reg, Reg) {
     (Reg::new(3), Reg::new(1), Reg::new(2))
 }
 
+/// An operation on the two registers that are read.
+fn on_registers(operator: Arithmetic) -> Instr {
+    let (rd, rs1, rs2) = three();
+    Instr::Register {
+        operator,
+        rd,
+        rs1,
+        rs2,
+    }
+}
+
+/// A load from the place in x1 and an immediate.
+fn load(operator: LoadOperator, rd: Reg, imm: Immediate) -> Instr {
+    let (_, rs1, _) = three();
+    Instr::Load {
+        operator,
+        rd,
+        rs1,
+        imm,
+    }
+}
+
+/// A store of x2 there.
+fn store(width: Width, imm: Immediate) -> Instr {
+    let (_, rs1, rs2) = three();
+    Instr::Store {
+        width,
+        rs1,
+        rs2,
+        imm,
+    }
+}
+
 /// What comes of an instruction on registers with these values in x1 and x2 and a memory of zeros: the program counter, x1 and x3.
 fn done(i: Instr, first: u32, second: u32) -> (Outcome, [u32; 3]) {
     let mut bus = FlatBus { bytes: [0; 64] };
@@ -44,37 +79,62 @@ fn assert_value(rt: &impl Abort, i: Instr, first: u32, second: u32, wanted: u32)
 
 /// Divisions by zero.
 fn assert_by_zero(rt: &impl Abort) {
-    let (rd, rs1, rs2) = three();
-    assert_value(rt, Instr::Div { rd, rs1, rs2 }, LEAST, 0, ONES);
-    assert_value(rt, Instr::Rem { rd, rs1, rs2 }, LEAST, 0, LEAST);
-    assert_value(rt, Instr::Divu { rd, rs1, rs2 }, LEAST, 0, ONES);
-    assert_value(rt, Instr::Remu { rd, rs1, rs2 }, LEAST, 0, LEAST);
+    assert_value(rt, on_registers(Arithmetic::Div), LEAST, 0, ONES);
+    assert_value(rt, on_registers(Arithmetic::Rem), LEAST, 0, LEAST);
+    assert_value(rt, on_registers(Arithmetic::Divu), LEAST, 0, ONES);
+    assert_value(rt, on_registers(Arithmetic::Remu), LEAST, 0, LEAST);
 }
 
 /// Divisions of the least number by -1, and of the same bits without signs.
 fn assert_by_ones(rt: &impl Abort) {
-    let (rd, rs1, rs2) = three();
-    assert_value(rt, Instr::Div { rd, rs1, rs2 }, LEAST, ONES, LEAST);
-    assert_value(rt, Instr::Rem { rd, rs1, rs2 }, LEAST, ONES, 0);
-    assert_value(rt, Instr::Divu { rd, rs1, rs2 }, LEAST, ONES, 0);
-    assert_value(rt, Instr::Remu { rd, rs1, rs2 }, LEAST, ONES, LEAST);
+    assert_value(rt, on_registers(Arithmetic::Div), LEAST, ONES, LEAST);
+    assert_value(rt, on_registers(Arithmetic::Rem), LEAST, ONES, 0);
+    assert_value(rt, on_registers(Arithmetic::Divu), LEAST, ONES, 0);
+    assert_value(rt, on_registers(Arithmetic::Remu), LEAST, ONES, LEAST);
 }
 
 /// The higher words of products.
 fn assert_products(rt: &impl Abort) {
-    let (rd, rs1, rs2) = three();
-    assert_value(rt, Instr::Mulh { rd, rs1, rs2 }, LEAST, LEAST, 0x4000_0000);
-    assert_value(rt, Instr::Mulhsu { rd, rs1, rs2 }, ONES, ONES, ONES);
-    assert_value(rt, Instr::Mulhu { rd, rs1, rs2 }, ONES, ONES, 0xffff_fffe);
+    assert_value(
+        rt,
+        on_registers(Arithmetic::Mulh),
+        LEAST,
+        LEAST,
+        0x4000_0000,
+    );
+    assert_value(rt, on_registers(Arithmetic::Mulhsu), ONES, ONES, ONES);
+    assert_value(rt, on_registers(Arithmetic::Mulhu), ONES, ONES, 0xffff_fffe);
 }
 
 /// A comparison with -1 without signs, and a shift of the sign.
 fn assert_immediates(rt: &impl Abort) {
     let (rd, rs1, _) = three();
     let imm = Immediate::new(-1);
-    assert_value(rt, Instr::Sltiu { rd, rs1, imm }, 0, 0, 1);
+    assert_value(
+        rt,
+        Instr::Immediate {
+            operator: ImmediateOperator::Sltiu,
+            rd,
+            rs1,
+            imm,
+        },
+        0,
+        0,
+        1,
+    );
     let amount = ShiftAmount::new(31);
-    assert_value(rt, Instr::Srai { rd, rs1, amount }, LEAST, 0, ONES);
+    assert_value(
+        rt,
+        Instr::Shift {
+            operator: ShiftOperator::Srai,
+            rd,
+            rs1,
+            amount,
+        },
+        LEAST,
+        0,
+        ONES,
+    );
 }
 
 #[test]
@@ -120,20 +180,20 @@ fn assert_trap(rt: &impl Abort, i: Instr, at: u32, cause: Cause) {
 
 #[test]
 fn refuses(rt: HostRuntime) {
-    let (rd, rs1, _) = three();
+    let (rd, _, _) = three();
     let imm = Immediate::new(0);
     assert_trap(
         &rt,
-        Instr::Lw { rd, rs1, imm },
+        load(LoadOperator::Lw, rd, imm),
         0x8000_0000,
         Cause::PageFault,
     );
-    let half = Instr::Lh { rd, rs1, imm };
+    let half = load(LoadOperator::Lh, rd, imm);
     assert_trap(&rt, half, 0x7fff_ffff, Cause::MisalignedData);
     let rd = Reg::new(0);
     assert_trap(
         &rt,
-        Instr::Lw { rd, rs1, imm },
+        load(LoadOperator::Lw, rd, imm),
         0x8000_0000,
         Cause::PageFault,
     );
@@ -150,55 +210,55 @@ fn assert_loaded(rt: &impl Abort, store: Instr, load: Instr, wanted: u32) {
 
 /// Loads after the store of a byte.
 fn assert_byte(rt: &impl Abort) {
-    let ((rd, rs1, rs2), imm) = (three(), Immediate::new(60));
+    let ((rd, _, _), imm) = (three(), Immediate::new(60));
     assert_loaded(
         rt,
-        Instr::Sb { rs1, rs2, imm },
-        Instr::Lb { rd, rs1, imm },
+        store(Width::Byte, imm),
+        load(LoadOperator::Lb, rd, imm),
         0xffff_ff83,
     );
     assert_loaded(
         rt,
-        Instr::Sb { rs1, rs2, imm },
-        Instr::Lbu { rd, rs1, imm },
+        store(Width::Byte, imm),
+        load(LoadOperator::Lbu, rd, imm),
         0x83,
     );
     assert_loaded(
         rt,
-        Instr::Sb { rs1, rs2, imm },
-        Instr::Lw { rd, rs1, imm },
+        store(Width::Byte, imm),
+        load(LoadOperator::Lw, rd, imm),
         0x1111_1183,
     );
 }
 
 /// Loads after the store of half a word.
 fn assert_half(rt: &impl Abort) {
-    let ((rd, rs1, rs2), imm) = (three(), Immediate::new(60));
+    let ((rd, _, _), imm) = (three(), Immediate::new(60));
     assert_loaded(
         rt,
-        Instr::Sh { rs1, rs2, imm },
-        Instr::Lh { rd, rs1, imm },
+        store(Width::Half, imm),
+        load(LoadOperator::Lh, rd, imm),
         0xffff_8283,
     );
     assert_loaded(
         rt,
-        Instr::Sh { rs1, rs2, imm },
-        Instr::Lhu { rd, rs1, imm },
+        store(Width::Half, imm),
+        load(LoadOperator::Lhu, rd, imm),
         0x8283,
     );
     assert_loaded(
         rt,
-        Instr::Sh { rs1, rs2, imm },
-        Instr::Lw { rd, rs1, imm },
+        store(Width::Half, imm),
+        load(LoadOperator::Lw, rd, imm),
         0x1111_8283,
     );
 }
 
 /// A load after the store of a word.
 fn assert_word(rt: &impl Abort) {
-    let ((rd, rs1, rs2), imm) = (three(), Immediate::new(60));
-    let store = Instr::Sw { rs1, rs2, imm };
-    assert_loaded(rt, store, Instr::Lw { rd, rs1, imm }, STORED);
+    let ((rd, _, _), imm) = (three(), Immediate::new(60));
+    let stored = store(Width::Word, imm);
+    assert_loaded(rt, stored, load(LoadOperator::Lw, rd, imm), STORED);
 }
 
 #[test]

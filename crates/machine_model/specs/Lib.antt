@@ -1,4 +1,5 @@
 pub mod Arithmetic
+pub mod Operators
 pub mod Effects
 pub mod States
 pub mod Stopping

@@ -19,25 +19,15 @@ pub fn named_by(machine: &Machine, instr: Instr) -> Option<u32>
     ensures { result ≡ named_by instr machine.now.architectural }
 {
     match instr {
-        Instr::Lb { rs1, imm, .. }
-        | Instr::Lh { rs1, imm, .. }
-        | Instr::Lw { rs1, imm, .. }
-        | Instr::Lbu { rs1, imm, .. }
-        | Instr::Lhu { rs1, imm, .. }
-        | Instr::Sb { rs1, imm, .. }
-        | Instr::Sh { rs1, imm, .. }
-        | Instr::Sw { rs1, imm, .. } => Some(beside(machine, rs1, imm)),
+        Instr::Load { rs1, imm, .. } | Instr::Store { rs1, imm, .. } => {
+            Some(beside(machine, rs1, imm))
+        }
         Instr::Jalr { rs1, imm, .. } => {
             let at = beside(machine, rs1, imm);
             Some(at - at % 2)
         }
         Instr::Jal { offset, .. } => Some(moved(machine.pc(), offset.value())),
-        Instr::Beq { offset, .. }
-        | Instr::Bne { offset, .. }
-        | Instr::Blt { offset, .. }
-        | Instr::Bge { offset, .. }
-        | Instr::Bltu { offset, .. }
-        | Instr::Bgeu { offset, .. } => Some(moved(machine.pc(), offset.value())),
+        Instr::Branch { offset, .. } => Some(moved(machine.pc(), offset.value())),
         _ => None,
     }
 }
