@@ -13,4 +13,5 @@ pub use arithmetic::{
 };
 pub use execute::{Outcome, exec, exec_ref};
 pub use machine_model::{Bus, BusFault, Cause, Width};
+pub use operation::{Arithmetic, Condition, computed, holds};
 pub use regs::Regs;
