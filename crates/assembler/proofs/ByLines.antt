@@ -54,9 +54,9 @@ module _ (source : List ℕ) (l : Laid) (c : Contents) (steps : Leads (IsPlaced 
       let at : between.begin.position ≡ p.position = sym between.here.at in
       let there : IsMeasured p.position h.earlier = subst (λ (q : Position). IsMeasured q h.earlier) at measured in
       let words : p.position.words ≡ length h.earlier.cells = fitting p.position.words (length h.earlier.cells) there.words
-          (omega (arith, few, ap (λ (x : Contents). length x.cells) h.whole, length-append h.earlier.cells (joined h.made h.later).cells)) in
+      (omega (arith, few, ap (λ (x : Contents). length x.cells) h.whole, length-append h.earlier.cells (joined h.made h.later).cells)) in
       let bytes : p.position.bytes ≡ length h.earlier.bytes = fitting p.position.bytes (length h.earlier.bytes) there.bytes
-          (omega (arith, small, ap (λ (x : Contents). length x.bytes) h.whole, length-append h.earlier.bytes (joined h.made h.later).bytes)) in
+      (omega (arith, small, ap (λ (x : Contents). length x.bytes) h.whole, length-append h.earlier.bytes (joined h.made h.later).bytes)) in
       let place : address_of (data_begins c) (spot_of p.position) ≡ address_after c p.position.in_data h.earlier = place-of p.position c h.earlier words bytes in
       record {
         contents = h.earlier;

@@ -1,5 +1,5 @@
 -- A step over the lines, and over the statements, that are left.
-use Rattle.std.proofs.Common.{ℕ, suc, ◌≡◌, ◌<◌, List, ◌∷◌, length, get_or, drop, Result, Ok, Err, refl, sym, ap, ◌∙◌, drop-cons}
+use Rattle.std.proofs.Common.{ℕ, suc, ◌≡◌, ◌<◌, ◌+◌, List, ◌∷◌, length, get_or, drop, Result, Ok, Err, refl, sym, ap, ◌∙◌, arith, drop-cons}
 use Rattle.asm_text.specs.declared.token.Line.{Line}
 use Rattle.asm_statements.specs.declared.statement.Statement.{Statement}
 use Rattle.assembler.specs.Labels.{SpotsByName}
@@ -32,9 +32,11 @@ next-held : (scope : Scope) (ps : List Piece) (i : ℕ) (p : Piece) → i < leng
 next-held scope ps i p more is = ap (all_held scope) (drop-cons ps i p more) ∙ ap (λ (x : Piece). all_held scope (x ∷ drop (suc i) ps)) (sym is)
 
 pub held-goes-on : (scope : Scope) (ps : List Piece) (i : ℕ) (p : Piece) (o n : Contents) → i < length ps → p ≡ get_or ps i p → added o (held scope p.line p.position p.statement) ≡ Ok n
-    → added n (all_held scope (drop (suc i) ps)) ≡ added o (all_held scope (drop i ps))
+    → added n (all_held scope (drop (i + 1) ps)) ≡ added o (all_held scope (drop i ps))
 held-goes-on scope ps i p o n more is made =
-    sym (ap (added o) (next-held scope ps i p more is) ∙ added-on o n (held scope p.line p.position p.statement) (all_held scope (drop (suc i) ps)) made)
+    let next : i + 1 ≡ suc i = omega arith in
+    ap (λ (k : ℕ). added n (all_held scope (drop k ps))) next
+    ∙ sym (ap (added o) (next-held scope ps i p more is) ∙ added-on o n (held scope p.line p.position p.statement) (all_held scope (drop (suc i) ps)) made)
 
 pub held-stops : (scope : Scope) (ps : List Piece) (i : ℕ) (p : Piece) (o : Contents) (f : AsmFault) → i < length ps → p ≡ get_or ps i p → added o (held scope p.line p.position p.statement) ≡ Err f
     → added o (all_held scope (drop i ps)) ≡ Err f
