@@ -1,7 +1,7 @@
 -- The laws of the crates below, put together.
 use Rattle.std.specs.Prelude.{All}
 use Rattle.memory_model.specs.Memory.{Memory}
-use Rattle.std.proofs.Common.{List, ℕ, length, ap}
+use Rattle.std.proofs.Common.{length, ap}
 use Rattle.machine_model.specs.Images.{Program, IsProfile, bytes_of_words}
 use Rattle.assembler.specs.Filling.{Contents}
 use Rattle.assembler.specs.Assembly.{data_base, data_segments, words_of}
