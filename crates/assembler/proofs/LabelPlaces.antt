@@ -1,23 +1,23 @@
--- A label stays where the first pass met it.
+-- A label stays where it was first met.
 use Rattle.std.proofs.Common.{ℕ, ◌≡◌, Ordering, Less, Equal, Greater, Bool, true, false, cond, List, [], ◌∷◌, Result, Ok, Err, Option, Some, None, refl, sym, ap, ◌∙◌, subst}
 use Rattle.std.specs.Prelude.{is_some, if◌then◌else◌}
 use Rattle.std.specs.Cmp.Lexicographic.{slice_cmp}
 use Rattle.std.specs.Ordering.{is_eq, nat_cmp, eq_by_cmp}
 use Rattle.std.specs.FinMap.{get, insert, get-insert, slice_cmp-IsAntisymmetric, nat_cmp-IsAntisymmetric}
 use Rattle.std.proofs.lemmas.Cmp.{nat_list_cmp_total, eq_by_cmp_equiv}
+use Rattle.asm_text.specs.Tokens.{Leads}
 use Rattle.asm_text.specs.declared.token.Line.{Line}
 use Rattle.asm_statements.specs.Tokens.{text_at}
 use Rattle.assembler.specs.Labels.{SpotsByName}
 use Rattle.assembler.specs.Faults.{fault_at}
-use Rattle.assembler.specs.Layout.{spot_of, label_declared, labelled, placed, all_placed}
+use Rattle.assembler.specs.Layout.{Laid, spot_of, label_declared, labelled}
 use Rattle.assembler.specs.declared.fault.AsmFault.{AsmFault}
 use Rattle.assembler.specs.declared.fault.Cause.TheVariants.{DoubleLabel}
 use Rattle.assembler.specs.declared.labels.Spot.{Spot}
 use Rattle.assembler.specs.declared.layout.Position.{Position}
-use Rattle.assembler.specs.declared.layout.Layout.{Layout}
+use Rattle.assembler.specs.declared.layout.Piece.{Piece}
 use Rattle.asm_statements.specs.declared.statement.Label.{Label}
-use Rattle.asm_statements.proofs.Stepping.{and_then-ok}
-use Rattle.assembler.proofs.Sizes.{IsPlaced, placed-is, same_layout}
+use Rattle.assembler.proofs.Pieces.{IsPlaced}
 
 same_labels : (a b : SpotsByName) → ◌≡◌ {A = Result SpotsByName AsmFault} (Ok a) (Ok b) → a ≡ b
 same_labels a b is = cc
@@ -70,15 +70,14 @@ labels-stay : (source : List ℕ) (line : Line) (label : Option Label) (p : Posi
 labels-stay source line None p before after is q s at = subst (λ (x : SpotsByName). get x q ≡ Some s) (same_labels before after is) at
 labels-stay source line (Some label) p before after is q s at = (declared-is source line label p before after is).stay q s at
 
--- over lines a label stays where it stands
-pub all-stay : (source : List ℕ) (lines : List Line) (l m : Layout) → all_placed source lines l ≡ Ok m → (q : List ℕ) (s : Spot) → get l.labels q ≡ Some s → get m.labels q ≡ Some s
-all-stay source [] l m is q s at = subst (λ (x : Layout). get x.labels q ≡ Some s) (same_layout l m is) at
-all-stay source (line ∷ lines) l m is q s at =
-    let (n, first, rest) = and_then-ok (placed source line l) (λ (x : Layout). all_placed source lines x) m is in
-    let step : IsPlaced source line l n = placed-is source line l n first in
-    all-stay source lines n m rest q s (labels-stay source line step.split.0 l.position l.labels n.labels step.label q s at)
+-- over statements a label stays where it stands
+pub all-stay : (source : List ℕ) (ps : List Piece) (l m : Laid) → Leads (IsPlaced source) l ps m → (q : List ℕ) (s : Spot) → get l.labels q ≡ Some s → get m.labels q ≡ Some s
+all-stay source [] l m steps q s at = subst (λ (x : Laid). get x.labels q ≡ Some s) steps at
+all-stay source (p ∷ ps) l m steps q s at =
+    let step : IsPlaced source l p steps.0 = steps.1 in
+    all-stay source ps steps.0 m steps.2 q s (labels-stay source p.line step.label l.position l.labels steps.0.labels step.labels q s at)
 
 -- after its line a label stands where the line begins
-pub label-found : (source : List ℕ) (line : Line) (label : Label) (l m : Layout) (step : IsPlaced source line l m) → step.split.0 ≡ Some label → get m.labels (text_at source label.start label.end) ≡ Some (spot_of l.position)
-label-found source line label l m step is =
-    (declared-is source line label l.position l.labels m.labels (subst (λ (x : Option Label). labelled source line x l.position l.labels ≡ Ok m.labels) is step.label)).found
+pub label-found : (source : List ℕ) (p : Piece) (label : Label) (l m : Laid) (step : IsPlaced source l p m) → step.label ≡ Some label → get m.labels (text_at source label.start label.end) ≡ Some (spot_of l.position)
+label-found source p label l m step is =
+    (declared-is source p.line label l.position l.labels m.labels (subst (λ (x : Option Label). labelled source p.line x l.position l.labels ≡ Ok m.labels) is step.labels)).found

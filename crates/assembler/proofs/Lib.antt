@@ -2,12 +2,12 @@
 pub mod LabelMaps
 pub mod Stepping
 pub mod Sizes
+pub mod Pieces
 pub mod Profiles
 pub mod Assemblies
 pub mod Listings
 pub mod Passes
 pub mod Outcomes
-pub mod StatementBytes
 pub mod LabelPlaces
 pub mod ByLines
 pub mod Loading

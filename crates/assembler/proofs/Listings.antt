@@ -1,26 +1,28 @@
 -- The instructions of a source are listed.
-use Rattle.std.proofs.Common.{ℕ, ℤ, pos, suc, ◌≡◌, ◌+◌, ◌*◌, ◌<◌, ◌≤◌, false, List, [], ◌∷◌, ◌++◌, length, Ok, Option, Some, None, refl, sym, ap, ◌∙◌, subst, arith, append_assoc, length-append}
+use Rattle.std.proofs.Common.{ℕ, ℤ, pos, suc, ◌≡◌, ◌+◌, ◌*◌, ◌<◌, ◌≤◌, ◌^◌, Bool, false, List, [], ◌∷◌, ◌++◌, length, Result, Ok, Option, Some, None, refl, sym, ap, ◌∙◌, subst, arith, append_assoc, length-append}
 use Rattle.std.specs.Prelude.{All}
 use Rattle.std.specs.Option.{ok_or}
-use Rattle.std.proofs.lemmas.Bool.Decides.{nat_tests}
-use Rattle.std.proofs.lemmas.List.{append-nil}
-use Rattle.std.proofs.lemmas.List.Elements.{All-nil, All-cons, All-head, All-tail, All-append, All-weaker}
+use Rattle.std.proofs.lemmas.List.{length-map}
+use Rattle.std.proofs.lemmas.List.Elements.{All-nil, All-cons, All-head, All-tail, All-weaker}
 use Rattle.machine_model.specs.Images.{Program}
 use Rattle.asm_text.specs.Tokens.{Leads}
 use Rattle.asm_text.specs.Text.{LineStart, source_start, IsNextLine, IsText}
 use Rattle.asm_text.specs.declared.token.Token.{Token}
 use Rattle.asm_text.specs.declared.token.Line.{Line}
 use Rattle.asm_statements.specs.Steps.{and_then}
-use Rattle.asm_statements.specs.Statements.{statement_read}
+use Rattle.asm_statements.specs.Statements.{label_read, statement_read}
 use Rattle.asm_statements.specs.Expansion.{expansion_of}
 use Rattle.assembler.specs.Faults.{at_line}
-use Rattle.assembler.specs.Layout.{counted, start_layout, placed, all_placed}
-use Rattle.assembler.specs.Filling.{Contents, Filling, Scope, start_filling, in_words, words_of_expansion, distance_of, instruction_held, held, filled, all_filled, contents_filled, instructions_of}
-use Rattle.assembler.specs.Assembly.{pages, scope_of, entry_of, Assembled, assembled, assembly, rows_from}
+use Rattle.assembler.specs.Labels.{SpotsByName}
+use Rattle.assembler.specs.Layout.{Laid, counted, start_layout, parsed, with_piece, all_placed}
+use Rattle.assembler.specs.Filling.{Contents, Scope, joined, in_words, words_of_expansion, distance_of, instruction_held, held, all_held, instructions_of}
+use Rattle.assembler.specs.Assembly.{scope_of, Assembled, assembly, rows_from}
+use Rattle.assembler.specs.Sections.{lines_of}
 use Rattle.assembler.specs.Instructions.{IsInstruction, AreInstructions, IsListedInstruction, ListsInstructions}
+use Rattle.assembler.specs.declared.fault.AsmFault.{AsmFault}
 use Rattle.assembler.specs.declared.fault.Cause.TheVariants.{Range}
 use Rattle.assembler.specs.declared.layout.Position.{Position}
-use Rattle.assembler.specs.declared.layout.Layout.{Layout}
+use Rattle.assembler.specs.declared.layout.Piece.{Piece}
 use Rattle.asm_statements.specs.declared.mnemonic.Mnemonic.{Mnemonic}
 use Rattle.asm_statements.specs.declared.operands.Operands.{Operands}
 use Rattle.asm_statements.specs.declared.expansion.Expansion.{Expansion}
@@ -30,66 +32,14 @@ use Rattle.asm_statements.specs.declared.statement.Statement.{Statement}
 use Rattle.asm_statements.specs.declared.statement.Statement.TheVariants as statement
 use Rattle.assembler.specs.declared.filling.Cell.{Cell}
 use Rattle.assembler.specs.declared.listing.ListingRow.{ListingRow}
-use Rattle.asm_statements.proofs.Stepping.{and_then-ok, and_then-each, ok_or-ok}
+use Rattle.asm_statements.proofs.Stepping.{and_then-ok, ok_or-ok}
 use Rattle.assembler.proofs.Stepping.{at_line-ok}
 use Rattle.asm_statements.proofs.Registers.{HasRegisters, statement-known}
 use Rattle.asm_statements.proofs.Expansions.{AreMeant, expansion-meant}
-use Rattle.assembler.proofs.Sizes.{IsMeasured, IsFilled, filled-is, same_split, same_statement, same_position, same_filling, same_layout, measured-all, same_contents}
-use Rattle.assembler.proofs.WordSizes.{IsCell, held-cells}
-use Rattle.assembler.proofs.Assemblies.{assembly_from, assembly_after, made_of, contents_shown, same_assembled, sized}
-
--- ---- what statements come to in text has the numbers of their lines
-
--- a cell is of a line from one number up to another
-abbrev IsOf : ℕ → ℕ → Cell → Type 0
-IsOf low high cell = (low ≤ cell.line) × (cell.line < high)
-
--- text has grown by cells of lines from one number up to another
-record Grows (low high : ℕ) (c d : Contents) : Type 0 where
-  more : List Cell
-  cells : d.cells ≡ c.cells ++ more
-  lines : All (IsOf low high) more
-
-grows-none : (low high : ℕ) (c d : Contents) → d.cells ≡ c.cells → Grows low high c d
-grows-none low high c d same = record { more = []; cells = same ∙ sym (append-nil c.cells); lines = All-nil (IsOf low high) }
-
-grows-then : (low high : ℕ) (c d e : Contents) → Grows low high c d → Grows low high d e → Grows low high c e
-grows-then low high c d e p q = record {
-  more = p.more ++ q.more;
-  cells = q.cells ∙ ap (λ (x : List Cell). x ++ q.more) p.cells ∙ append_assoc c.cells p.more q.more;
-  lines = All-append (IsOf low high) p.more q.more p.lines q.lines;
-}
-
-wider : (low high bottom top : ℕ) (c d : Contents) → bottom ≤ low → high ≤ top → Grows low high c d → Grows bottom top c d
-wider low high bottom top c d a b g = record {
-  more = g.more;
-  cells = g.cells;
-  lines = All-weaker (IsOf low high) (IsOf bottom top) (λ (x : Cell) is. (omega (arith, is.0), omega (arith, is.1))) g.more g.lines;
-}
-
-grows-line : (scope : Scope) (line : Line) (f g : Filling) → filled scope line f ≡ Ok g → Grows line.number (line.number + 1) f.contents g.contents
-grows-line scope line f g is =
-    let step : IsFilled scope line f g = filled-is scope line f g is in
-    let cells : All (IsCell line.number) step.more.cells = held-cells scope line f.position step.made step.more (statement-known scope.source f.position.in_data line.end step.split.1 step.made step.body) step.comes in
-    record {
-      more = step.more.cells;
-      cells = ap (λ (x : Contents). x.cells) (sym step.contents);
-      lines = All-weaker (IsCell line.number) (IsOf line.number (line.number + 1)) (λ (x : Cell) is. (omega (arith, is.line), omega (arith, is.line))) step.more.cells cells;
-    }
-
--- lines that are counted from a number on
-abbrev AreCounted : ℕ → List Line → Type 0
-AreCounted n [] = Unit {0}
-AreCounted n (l ∷ ls) = (l.number ≡ n) × AreCounted (n + 1) ls
-
-grows-lines : (scope : Scope) (n : ℕ) (lines : List Line) (f g : Filling) → AreCounted n lines → all_filled scope lines f ≡ Ok g → Grows n (n + length lines) f.contents g.contents
-grows-lines scope n [] f g counts is = grows-none n (n + 0) f.contents g.contents (ap (λ (x : Filling). x.contents.cells) (sym (same_filling f g is)))
-grows-lines scope n (line ∷ lines) f g counts is =
-    let (h, first, rest) = and_then-ok (filled scope line f) (λ (x : Filling). all_filled scope lines x) g is in
-    let number : line.number ≡ n = counts.0 in
-    grows-then n (n + length (line ∷ lines)) f.contents h.contents g.contents
-    (wider line.number (line.number + 1) n (n + length (line ∷ lines)) f.contents h.contents (omega arith) (omega arith) (grows-line scope line f h first))
-    (wider (n + 1) (n + 1 + length lines) n (n + length (line ∷ lines)) h.contents g.contents (omega arith) (omega arith) (grows-lines scope (n + 1) lines h g counts.1 rest))
+use Rattle.assembler.proofs.Sizes.{IsMeasured, same_contents}
+use Rattle.assembler.proofs.Pieces.{IsPlaced, IsParted, HasSteps, AreLaid, piece_at, parsed-is, same_laid, lines-steps, lines-laid, all_placed-append, held-parted, measured-all}
+use Rattle.assembler.proofs.WordSizes.{AreCounted, IsOf, lines-cells}
+use Rattle.assembler.proofs.Assemblies.{IsAssembly, assembly-is}
 
 -- ---- the lines of a source are counted from 1
 
@@ -122,24 +72,6 @@ counted-parts n [] line after c = record { prefix = tt; number = c.0 ∙ omega a
 counted-parts n (x ∷ xs) line after c =
     let rest = counted-parts (n + 1) xs line after c.1 in
     record { prefix = (c.0, rest.prefix); number = rest.number ∙ omega arith; back = rest.back }
-
--- ---- the passes over lines that are parted
-
-pub all_filled-append : (scope : Scope) (xs ys : List Line) (f : Filling) → all_filled scope (xs ++ ys) f ≡ and_then (all_filled scope xs f) (λ (g : Filling). all_filled scope ys g)
-all_filled-append scope [] ys f = refl
-all_filled-append scope (x ∷ xs) ys f = and_then-each (filled scope x f) (λ (g : Filling). all_filled scope xs g) (λ (g : Filling). all_filled scope ys g) (λ (g : Filling). all_filled scope (xs ++ ys) g) (λ g. all_filled-append scope xs ys g)
-
-pub all_placed-append : (source : List ℕ) (xs ys : List Line) (l : Layout) → all_placed source (xs ++ ys) l ≡ and_then (all_placed source xs l) (λ (m : Layout). all_placed source ys m)
-all_placed-append source [] ys l = refl
-all_placed-append source (x ∷ xs) ys l = and_then-each (placed source x l) (λ (m : Layout). all_placed source xs m) (λ (m : Layout). all_placed source ys m) (λ (m : Layout). all_placed source (xs ++ ys) m) (λ m. all_placed-append source xs ys m)
-
--- both passes come to one position
-pub same_positions : (scope : Scope) (lines : List Line) (l m : Layout) (f g : Filling) → l.position ≡ f.position → all_placed scope.source lines l ≡ Ok m → all_filled scope lines f ≡ Ok g → m.position ≡ g.position
-same_positions scope [] l m f g at is js = sym (ap (λ (x : Layout). x.position) (same_layout l m is)) ∙ at ∙ ap (λ (x : Filling). x.position) (same_filling f g js)
-same_positions scope (line ∷ lines) l m f g at is js =
-    let (l2, first, is2) = and_then-ok (placed scope.source line l) (λ (x : Layout). all_placed scope.source lines x) m is in
-    let (f2, second, js2) = and_then-ok (filled scope line f) (λ (x : Filling). all_filled scope lines x) g js in
-    same_positions scope lines l2 m f2 g (same_position scope line l l2 f f2 at first second) is2 js2
 
 -- ---- the cells of an instruction, and their rows
 
@@ -199,31 +131,63 @@ text_position p words in_text as_many = λ i. record { in_data = in_text i; word
 counted-small : (w len : ℕ) → w ≡ counted len → len ≤ 61440 → len ≡ w
 counted-small w len e small = omega arith
 
--- where the passes are at an instruction, and what it adds
-line-added : (scope : Scope) (before : List Line) (line : Line) (words : ℕ) (m : Mnemonic) (o : Operands) (g h : Filling) → IsInstruction scope.source before line words m o
-    → all_filled scope before start_filling ≡ Ok g → filled scope line g ≡ Ok h
-    → (d : Contents) × (h.contents.cells ≡ g.contents.cells ++ d.cells) × IsAdded scope line words m o d × HasRegisters o × (words ≡ counted (length g.contents.cells))
-line-added scope before line words m o g h is prefix here =
-    let at : is.layout.position ≡ g.position = same_positions scope before start_layout is.layout start_filling g refl is.placed prefix in
-    let text : is.layout.position ≡ record { in_data = false; words = words; bytes = is.layout.position.bytes } = text_position is.layout.position words is.in_text is.as_many in
-    let there : g.position ≡ record { in_data = false; words = words; bytes = is.layout.position.bytes } = sym at ∙ text in
-    let step : IsFilled scope line g h = filled-is scope line g h here in
-    let split : step.split ≡ (is.label, is.statement) = same_split scope.source line step.split (is.label, is.statement) step.prefix is.parted in
-    let body : statement_read scope.source false line.end is.statement ≡ Ok step.made =
-    subst (λ (p : Position). statement_read scope.source p.in_data line.end is.statement ≡ Ok step.made) there
-    (subst (λ (r : Option Label × List Token). statement_read scope.source g.position.in_data line.end r.1 ≡ Ok step.made) split step.body) in
-    let made : step.made ≡ statement.Instruction m o = same_statement (statement_read scope.source false line.end is.statement) step.made (statement.Instruction m o) body is.read in
-    let comes : held scope line (record { in_data = false; words = words; bytes = is.layout.position.bytes }) (statement.Instruction m o) ≡ Ok step.more =
-    subst (λ (p : Position). held scope line p (statement.Instruction m o) ≡ Ok step.more) there
-    (subst (λ (s : Statement). held scope line g.position s ≡ Ok step.more) made step.comes) in
-    let measured : IsMeasured is.layout.position g.contents = measured-all scope before start_layout is.layout start_filling g refl (record { words = refl; bytes = refl }) is.placed prefix in
-    (step.more, ap (λ (x : Contents). x.cells) (sym step.contents), added-instruction scope line words m o (distance_of scope (pos (65536 + 4 * words)) o.value) step.more refl comes, statement-known scope.source false line.end is.statement (statement.Instruction m o) is.read, sym is.as_many ∙ measured.words)
+same_ok : (s t : Statement) → ◌≡◌ {A = Result Statement ℕ} (Ok s) (Ok t) → s ≡ t
+same_ok s t is = cc
 
-joined : (prefix here back middle whole : List Cell) → middle ≡ prefix ++ here → whole ≡ middle ++ back → whole ≡ prefix ++ (here ++ back)
-joined prefix here back middle whole p q = q ∙ ap (λ (x : List Cell). x ++ back) p ∙ append_assoc prefix here back
+same_split : (p q : Option Label × List Token) → ◌≡◌ {A = Result (Option Label × List Token) ℕ} (Ok p) (Ok q) → p ≡ q
+same_split p q is = cc
+
+same_statement : (source : List ℕ) (line : Line) (in_data : Bool) (a b : Option Label) (xs ys : List Token) (s t : Statement) → label_read source line.tokens ≡ Ok (a, xs) → label_read source line.tokens ≡ Ok (b, ys)
+    → statement_read source in_data line.end xs ≡ Ok s → statement_read source in_data line.end ys ≡ Ok t → s ≡ t
+same_statement source line in_data a b xs ys s t p q first second =
+    let split : ◌≡◌ {A = Result (Option Label × List Token) ℕ} (Ok (a, xs)) (Ok (b, ys)) = sym p ∙ q in
+    same_ok s t (sym first ∙ ap (λ (x : List Token). statement_read source in_data line.end x) (ap (λ (r : Option Label × List Token). r.1) (same_split (a, xs) (b, ys) split)) ∙ second)
+
+-- the statement of a line among those of all lines
+record HasPiece (source : List ℕ) (before : List Line) (line : Line) (after : List Line) (words : ℕ) (m : Mnemonic) (o : Operands) (l : Laid) : Type 0 where
+  begin : Laid
+  end : Laid
+  piece : Piece
+  later : List Piece
+  each : lines_of begin.pieces ≡ before
+  each_later : lines_of later ≡ after
+  steps : Leads (IsPlaced source) start_layout begin.pieces begin
+  onward : Leads (IsPlaced source) end later l
+  pieces : l.pieces ≡ begin.pieces ++ piece ∷ later
+  same_line : piece.line ≡ line
+  position : piece.position ≡ record { in_data = false; words = words; bytes = begin.position.bytes }
+  is : piece.statement ≡ statement.Instruction m o
+  as_many : begin.position.words ≡ words
+
+line-piece : (source : List ℕ) (before : List Line) (line : Line) (after : List Line) (words : ℕ) (m : Mnemonic) (o : Operands) (l : Laid) → IsInstruction source before line words m o → all_placed source (before ++ line ∷ after) start_layout ≡ Ok l
+    → HasPiece source before line after words m o l
+line-piece source before line after words m o l is placed =
+    let b : Laid = is.layout in
+    let both : and_then (all_placed source before start_layout) (λ (x : Laid). all_placed source (line ∷ after) x) ≡ Ok l = sym (all_placed-append source before (line ∷ after) start_layout) ∙ placed in
+    let onward : all_placed source (line ∷ after) b ≡ Ok l = sym (ap (λ (r : Result Laid AsmFault). and_then r (λ (x : Laid). all_placed source (line ∷ after) x)) is.placed) ∙ both in
+    let (r, here, rest) = and_then-ok (parsed source line b.position b.labels) (λ (x : Statement × SpotsByName). all_placed source after (with_piece b line x)) l onward in
+    let step : IsPlaced source b (piece_at b line r) (with_piece b line r) = parsed-is source line b r here in
+    let early : AreLaid source before b = lines-laid source before b is.placed in
+    let late : HasSteps source after (with_piece b line r) l = lines-steps source after (with_piece b line r) l rest in
+    record {
+      begin = b;
+      end = with_piece b line r;
+      piece = piece_at b line r;
+      later = late.pieces;
+      each = early.each;
+      each_later = late.each;
+      steps = early.steps;
+      onward = late.steps;
+      pieces = late.grown ∙ append_assoc b.pieces (piece_at b line r ∷ []) late.pieces;
+      same_line = refl;
+      position = text_position b.position words is.in_text is.as_many;
+      is = same_statement source line false step.label is.label step.rest is.statement r.0 (statement.Instruction m o) step.prefix is.parted
+          (subst (λ (d : Bool). statement_read source d line.end step.rest ≡ Ok r.0) is.in_text step.body) is.read;
+      as_many = is.as_many;
+    }
 
 -- the rows of text that is parted as the lines are
-record IsParted (scope : Scope) (line : Line) (words : ℕ) (m : Mnemonic) (o : Operands) (c : Contents) : Type 0 where
+record IsPartedText (scope : Scope) (line : Line) (words : ℕ) (m : Mnemonic) (o : Operands) (c : Contents) : Type 0 where
   prefix : List Cell
   back : List Cell
   number : ℤ
@@ -236,44 +200,41 @@ record IsParted (scope : Scope) (line : Line) (words : ℕ) (m : Mnemonic) (o : 
   earlier : All (λ (x : Cell). x.line < line.number) prefix
   later : All (λ (x : Cell). line.number < x.line) back
 
-parted-at : (scope : Scope) (before : List Line) (line : Line) (after : List Line) (words : ℕ) (m : Mnemonic) (o : Operands) (f g h : Filling) → IsCountedAt 1 before line after → IsInstruction scope.source before line words m o
-    → all_filled scope before start_filling ≡ Ok g → filled scope line g ≡ Ok h → all_filled scope after h ≡ Ok f → IsParted scope line words m o f.contents
-parted-at scope before line after words m o f g h counts instruction prefix here rest =
-    let (more, grown, added, registers, at) = line-added scope before line words m o g h instruction prefix here in
-    let early : Grows 1 (1 + length before) start_filling.contents g.contents = grows-lines scope 1 before start_filling g counts.prefix prefix in
-    let late : Grows (line.number + 1) (line.number + 1 + length after) h.contents f.contents = grows-lines scope (line.number + 1) after h f counts.back rest in
-    let number : line.number ≡ 1 + length before = counts.number in
+parted-lines : (scope : Scope) (source : List ℕ) (before : List Line) (line : Line) (after : List Line) (words : ℕ) (m : Mnemonic) (o : Operands) (l : Laid) (c : Contents) → IsText source (before ++ line ∷ after) → IsInstruction source before line words m o
+    → all_placed source (before ++ line ∷ after) start_layout ≡ Ok l → all_held scope l.pieces ≡ Ok c → IsPartedText scope line words m o c
+parted-lines scope source before line after words m o l c text instruction placed fills =
+    let k : HasPiece source before line after words m o l = line-piece source before line after words m o l instruction placed in
+    let h : IsParted scope k.begin.pieces k.piece k.later c = held-parted scope k.begin.pieces k.piece k.later c (subst (λ (ps : List Piece). all_held scope ps ≡ Ok c) k.pieces fills) in
+    let counts : IsCountedAt 1 before line after = counted-parts 1 before line after (counted-text source (before ++ line ∷ after) text) in
+    let here : held scope line (record { in_data = false; words = words; bytes = k.begin.position.bytes }) (statement.Instruction m o) ≡ Ok h.made =
+    subst (λ (x : Line). held scope x (record { in_data = false; words = words; bytes = k.begin.position.bytes }) (statement.Instruction m o) ≡ Ok h.made) k.same_line
+    (subst (λ (p : Position). held scope k.piece.line p (statement.Instruction m o) ≡ Ok h.made) k.position
+    (subst (λ (s : Statement). held scope k.piece.line k.piece.position s ≡ Ok h.made) k.is h.here)) in
+    let added : IsAdded scope line words m o h.made = added-instruction scope line words m o (distance_of scope (pos (65536 + 4 * words)) o.value) h.made refl here in
+    let registers : HasRegisters o = statement-known source false line.end instruction.statement (statement.Instruction m o) instruction.read in
+    let measured : IsMeasured k.begin.position h.earlier = measured-all scope source k.begin.pieces k.begin h.earlier k.steps h.prefix in
+    let early : All (IsOf 1 (1 + length k.begin.pieces)) h.earlier.cells =
+    lines-cells scope source 1 k.begin.pieces start_layout k.begin h.earlier (subst (AreCounted 1) (sym k.each) counts.prefix) k.steps h.prefix in
+    let late : All (IsOf (line.number + 1) (line.number + 1 + length k.later)) h.later.cells =
+    lines-cells scope source (line.number + 1) k.later k.end l h.later (subst (AreCounted (line.number + 1)) (sym k.each_later) counts.back) k.onward h.back in
+    let as_long : length k.begin.pieces ≡ length before = sym (length-map k.begin.pieces (λ (p : Piece). p.line)) ∙ ap length k.each in
     record {
-      prefix = g.contents.cells;
-      back = late.more;
+      prefix = h.earlier.cells;
+      back = h.later.cells;
       number = added.number;
       value = added.value;
       expansion = added.expansion;
       expands = added.expands;
       meant = expansion-meant m o added.number added.expansion registers added.expands;
-      cells = joined g.contents.cells (cells_of line.number added.expansion) late.more h.contents.cells f.contents.cells (grown ∙ ap (λ (x : List Cell). g.contents.cells ++ x) added.cells) late.cells;
-      as_many = at;
-      earlier = subst (λ (x : List Cell). All (λ (x : Cell). x.line < line.number) x) (sym early.cells)
-          (All-weaker (IsOf 1 (1 + length before)) (λ (x : Cell). x.line < line.number) (λ (x : Cell) is. omega (arith, is.1)) early.more early.lines);
-      later = All-weaker (IsOf (line.number + 1) (line.number + 1 + length after)) (λ (x : Cell). line.number < x.line) (λ (x : Cell) is. omega (arith, is.0)) late.more late.lines;
+      cells = ap (λ (x : Contents). x.cells) (sym h.whole) ∙ ap (λ (x : List Cell). h.earlier.cells ++ (x ++ h.later.cells)) added.cells;
+      as_many = sym k.as_many ∙ measured.words;
+      earlier = All-weaker (IsOf 1 (1 + length k.begin.pieces)) (λ (x : Cell). x.line < line.number) (λ (x : Cell) is. omega (arith, is.below, as_long, counts.number)) h.earlier.cells early;
+      later = All-weaker (IsOf (line.number + 1) (line.number + 1 + length k.later)) (λ (x : Cell). line.number < x.line) (λ (x : Cell) is. omega (arith, is.from)) h.later.cells late;
     }
 
-parted-lines : (scope : Scope) (before : List Line) (line : Line) (after : List Line) (words : ℕ) (m : Mnemonic) (o : Operands) (c : Contents) → IsText scope.source (before ++ line ∷ after) → IsInstruction scope.source before line words m o
-    → contents_filled scope (before ++ line ∷ after) ≡ Ok c → IsParted scope line words m o c
-parted-lines scope before line after words m o c text instruction is =
-    let (f, all, shows) = and_then-ok (all_filled scope (before ++ line ∷ after) start_filling) contents_shown c is in
-    let (g, prefix, later) = and_then-ok (all_filled scope before start_filling) (λ (x : Filling). all_filled scope (line ∷ after) x) f (sym (all_filled-append scope before (line ∷ after) start_filling) ∙ all) in
-    let (h, here, rest) = and_then-ok (filled scope line g) (λ (x : Filling). all_filled scope after x) f later in
-    subst (λ (x : Contents). IsParted scope line words m o x) (same_contents f.contents c shows)
-    (parted-at scope before line after words m o f g h (counted-parts 1 before line after (counted-text scope.source (before ++ line ∷ after) text)) instruction prefix here rest)
-
--- text that fits the image has no more words than its pages hold
-pub entry-fits : (l : Layout) (entry : ℕ) → entry_of l ≡ Ok entry → pages (4 * l.position.words) + pages l.position.bytes ≤ 60
-entry-fits l entry is = grind (arith, nat_tests)
-
--- the listing of what the passes make
-listed-instruction : (source : List ℕ) (before : List Line) (line : Line) (after : List Line) (words : ℕ) (m : Mnemonic) (o : Operands) (listing : List ListingRow) (l : Layout) (c : Contents) → all_placed source (before ++ line ∷ after) start_layout ≡ Ok l
-    → length c.cells ≤ 61440 → rows_from 65536 c.cells ≡ listing → IsParted (scope_of source l) line words m o c → IsListedInstruction source (before ++ line ∷ after) line words m o listing
+-- the listing of what the lines come to
+listed-instruction : (source : List ℕ) (before : List Line) (line : Line) (after : List Line) (words : ℕ) (m : Mnemonic) (o : Operands) (listing : List ListingRow) (l : Laid) (c : Contents) → all_placed source (before ++ line ∷ after) start_layout ≡ Ok l
+    → length c.cells ≤ 61440 → rows_from 65536 c.cells ≡ listing → IsPartedText (scope_of source l) line words m o c → IsListedInstruction source (before ++ line ∷ after) line words m o listing
 listed-instruction source before line after words m o listing l c placed small shows parted =
     let here : List Cell = cells_of line.number parted.expansion in
     let short : length parted.prefix ≤ 61440 = omega (arith, ap length parted.cells, length-append parted.prefix (here ++ parted.back)) in
@@ -298,26 +259,30 @@ listed-instruction source before line after words m o listing l c placed small s
       later = rows-lines (λ (n : ℕ). line.number < n) (65536 + 4 * words + 4 * length here) parted.back parted.later;
     }
 
-made-lists : (source : List ℕ) (before : List Line) (line : Line) (after : List Line) (words : ℕ) (m : Mnemonic) (o : Operands) (image : Program) (listing : List ListingRow) → IsText source (before ++ line ∷ after) → IsInstruction source before line words m o
-    → assembly source (before ++ line ∷ after) ≡ Ok (record { image = image; listing = listing }) → IsListedInstruction source (before ++ line ∷ after) line words m o listing
-made-lists source before line after words m o image listing text instruction is =
-    let lines : List Line = before ++ line ∷ after in
+-- what the one reading of a source comes to lists its instructions
+pub lists-instructions : (source given : List ℕ) (lines : List Line) (image : Program) (listing : List ListingRow) → given ≡ source → IsText source lines
+    → ((s : List ℕ) (ls ms : List Line) → IsText s ls → IsText s ms → ls ≡ ms) → assembly given lines ≡ Ok (record { image = image; listing = listing }) → ListsInstructions source listing
+lists-instructions source given lines image listing same text one is before line after words m o other instruction =
+    let all : List Line = before ++ line ∷ after in
     let wanted : Assembled = record { image = image; listing = listing } in
-    let (l, placed, is2) = and_then-ok (all_placed source lines start_layout) (assembly_from source lines) wanted is in
-    let (entry, starts, is3) = and_then-ok (entry_of l) (assembly_after source lines l) wanted is2 in
-    let (c, fills, is4) = and_then-ok (contents_filled (scope_of source l) lines) (made_of entry) wanted is3 in
-    let fits : pages (4 * l.position.words) + pages l.position.bytes ≤ 60 = entry-fits l entry starts in
-    let size = sized (scope_of source l) lines l c placed fills fits in
-    let small : length c.cells ≤ 61440 = omega (arith, size.0, fits) in
-    listed-instruction source before line after words m o listing l c placed small (ap (λ (a : Assembled). a.listing) (same_assembled (assembled entry c) wanted is4))
-    (parted-lines (scope_of source l) before line after words m o c text instruction fills)
+    let made : assembly source all ≡ Ok wanted =
+    subst (λ (ls : List Line). assembly source ls ≡ Ok wanted) (one source lines all text other) (subst (λ (s : List ℕ). assembly s lines ≡ Ok wanted) same is) in
+    let a : IsAssembly source all wanted = assembly-is source all wanted made in
+    listed-instruction source before line after words m o listing a.layout a.contents a.placed (omega (arith, a.words, a.fits)) (ap (λ (x : Assembled). x.listing) a.made)
+    (parted-lines (scope_of source a.layout) source before line after words m o a.layout a.contents other instruction a.placed a.held)
 
--- what the passes make of the one reading of a source lists its instructions
-pub lists-instructions : (source given : List ℕ) (lines given_lines : List Line) (image : Program) (listing : List ListingRow) → given ≡ source → given_lines ≡ lines → IsText source lines
-    → ((s : List ℕ) (ls ms : List Line) → IsText s ls → IsText s ms → ls ≡ ms) → assembly given given_lines ≡ Ok (record { image = image; listing = listing }) → ListsInstructions source listing
-lists-instructions source given lines given_lines image listing same same_lines text one is before line after words m o other instruction =
-    let made : assembly source lines ≡ Ok (record { image = image; listing = listing }) =
-    subst (λ (ls : List Line). assembly source ls ≡ Ok (record { image = image; listing = listing })) same_lines
-    (subst (λ (s : List ℕ). assembly s given_lines ≡ Ok (record { image = image; listing = listing })) same is) in
-    made-lists source before line after words m o image listing other instruction
-    (subst (λ (ls : List Line). assembly source ls ≡ Ok (record { image = image; listing = listing })) (one source lines (before ++ line ∷ after) text other) made)
+words-rows : (low high at : ℕ) (cells : List Cell) → All (IsOf low high) cells → All (λ (row : ListingRow). row.word < 2 ^ 32) (rows_from at cells)
+words-rows low high at [] all = All-nil (λ (row : ListingRow). row.word < 2 ^ 32)
+words-rows low high at (c ∷ cells) all =
+    All-cons (λ (row : ListingRow). row.word < 2 ^ 32) (record { address = at; word = c.word; line = c.line }) (rows_from (at + 4) cells)
+    (All-head (IsOf low high) c cells all).small (words-rows low high (at + 4) cells (All-tail (IsOf low high) c cells all))
+
+-- each listed word is below 2^32
+pub words-made : (source : List ℕ) (lines : List Line) (image : Program) (listing : List ListingRow) → IsText source lines → assembly source lines ≡ Ok (record { image = image; listing = listing }) → All (λ (row : ListingRow). row.word < 2 ^ 32) listing
+words-made source lines image listing text is =
+    let a : IsAssembly source lines (record { image = image; listing = listing }) = assembly-is source lines (record { image = image; listing = listing }) is in
+    let all : AreLaid source lines a.layout = lines-laid source lines a.layout a.placed in
+    let counts : AreCounted 1 (lines_of a.layout.pieces) = subst (AreCounted 1) (sym all.each) (counted-text source lines text) in
+    subst (λ (x : Assembled). All (λ (row : ListingRow). row.word < 2 ^ 32) x.listing) a.made
+    (words-rows 1 (1 + length a.layout.pieces) 65536 a.contents.cells
+    (lines-cells (scope_of source a.layout) source 1 a.layout.pieces start_layout a.layout a.contents counts all.steps a.held))

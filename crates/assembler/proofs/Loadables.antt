@@ -6,18 +6,16 @@ use Rattle.std.proofs.lemmas.Bool.Decides.{nat_tests}
 use Rattle.machine_model.specs.Images.{Program, IsProfile, bytes_of_words}
 use Rattle.asm_text.specs.declared.token.Line.{Line}
 use Rattle.assembler.specs.Faults.{whole}
-use Rattle.assembler.specs.Layout.{start_layout, all_placed}
-use Rattle.assembler.specs.Filling.{contents_filled}
-use Rattle.assembler.specs.Assembly.{pages, data_base, start_at, IsTextAddress, entry_of, words_of, text_segment, data_segments, scope_of, Assembled, assembled, assembly}
+use Rattle.assembler.specs.Layout.{Laid}
+use Rattle.assembler.specs.Filling.{Contents}
+use Rattle.assembler.specs.Assembly.{pages, data_base, start_at, IsTextAddress, entry_of, words_of, text_segment, data_segments, Assembled, assembly}
 use Rattle.assembler.specs.declared.fault.AsmFault.{AsmFault}
 use Rattle.assembler.specs.declared.fault.Cause.TheVariants.{NoStart, TooLarge}
 use Rattle.assembler.specs.declared.labels.Spot.{Spot}
 use Rattle.assembler.specs.declared.listing.ListingRow.{ListingRow}
-use Rattle.assembler.specs.declared.layout.Layout.{Layout}
-use Rattle.asm_statements.proofs.Stepping.{and_then-ok}
+use Rattle.assembler.specs.declared.layout.Position.{Position}
 use Rattle.assembler.proofs.Profiles.{profile-image}
-use Rattle.assembler.proofs.Assemblies.{assembly_from, assembly_after, made_of, same_assembled, sized}
-use Rattle.assembler.proofs.Listings.{entry-fits}
+use Rattle.assembler.proofs.Assemblies.{IsAssembly, assembly-is}
 
 same_number : (m n : ℕ) → ◌≡◌ {A = Result ℕ AsmFault} (Ok m) (Ok n) → m ≡ n
 same_number m n is = cc
@@ -37,7 +35,7 @@ start-inside (Some spot) words entry is = by_test spot.in_data (nat_lt spot.offs
         let below : spot.offset < words = grind (arith, nat_tests) in
         text-address words spot.offset entry below (same_number (65536 + 4 * spot.offset) entry is)
 
-entry-start : (l : Layout) (entry : ℕ) → entry_of l ≡ Ok entry → start_at (get l.labels (codes "_start")) l.position.words ≡ Ok entry
+entry-start : (l : Laid) (entry : ℕ) → entry_of l ≡ Ok entry → start_at (get l.labels (codes "_start")) l.position.words ≡ Ok entry
 entry-start l entry is = by_test (nat_lt 60 (pages (4 * l.position.words) + pages l.position.bytes)) is
   where
     by_test : (b : Bool) → (if b then Err (whole TooLarge) else start_at (get l.labels (codes "_start")) l.position.words) ≡ Ok entry → start_at (get l.labels (codes "_start")) l.position.words ≡ Ok entry
@@ -47,17 +45,14 @@ entry-start l entry is = by_test (nat_lt 60 (pages (4 * l.position.words) + page
 fitting-pages : (words bytes w b : ℕ) → w ≡ words → b ≡ bytes → pages (4 * words) + pages bytes ≤ 60 → pages (4 * w) + pages b ≤ 60
 fitting-pages words bytes w b is js fits = omega arith
 
--- what the passes make keeps the profile
+-- what the lines come to keeps the profile
 pub profile-made : (source : List ℕ) (lines : List Line) (image : Program) (listing : List ListingRow) → assembly source lines ≡ Ok (record { image = image; listing = listing }) → IsProfile image
 profile-made source lines image listing is =
-    let wanted : Assembled = record { image = image; listing = listing } in
-    let (l, placed, is2) = and_then-ok (all_placed source lines start_layout) (assembly_from source lines) wanted is in
-    let (entry, starts, is3) = and_then-ok (entry_of l) (assembly_after source lines l) wanted is2 in
-    let (c, fills, is4) = and_then-ok (contents_filled (scope_of source l) lines) (made_of entry) wanted is3 in
-    let fits : pages (4 * l.position.words) + pages l.position.bytes ≤ 60 = entry-fits l entry starts in
-    let size = sized (scope_of source l) lines l c placed fills fits in
-    let inside : IsTextAddress l.position.words entry = start-inside (get l.labels (codes "_start")) l.position.words entry (entry-start l entry starts) in
-    let high : entry < 65536 + 4 * length c.cells = omega (arith, size.0, inside.2) in
-    subst (λ (a : Assembled). IsProfile a.image) (same_assembled (assembled entry c) wanted is4)
-    (profile-image entry c.cells c.bytes (text_segment (bytes_of_words (words_of c.cells)) ∷ data_segments (data_base (length c.cells)) c.bytes) refl
-    (fitting-pages l.position.words l.position.bytes (length c.cells) (length c.bytes) size.0 size.1 fits) inside.0 inside.1 high)
+    let a : IsAssembly source lines (record { image = image; listing = listing }) = assembly-is source lines (record { image = image; listing = listing }) is in
+    let c : Contents = a.contents in
+    let p : Position = a.layout.position in
+    let inside : IsTextAddress p.words a.entry = start-inside (get a.layout.labels (codes "_start")) p.words a.entry (entry-start a.layout a.entry a.starts) in
+    let high : a.entry < 65536 + 4 * length c.cells = omega (arith, a.words, inside.2) in
+    subst (λ (x : Assembled). IsProfile x.image) a.made
+    (profile-image a.entry c.cells c.bytes (text_segment (bytes_of_words (words_of c.cells)) ∷ data_segments (data_base (length c.cells)) c.bytes) refl
+    (fitting-pages p.words p.bytes (length c.cells) (length c.bytes) a.words a.bytes a.fits) inside.0 inside.1 high)

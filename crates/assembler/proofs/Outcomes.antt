@@ -30,7 +30,7 @@ within m n = by_test (nat_lt n m) refl
     by_test true is = inr (grind (arith, nat_tests))
     by_test false is = inl (grind (arith, nat_tests))
 
--- the passes over the lines of two readings
+-- two readings come to one outcome
 same_passes : LinesAreOne → (s : List ℕ) (ls ms : List Line) (r : Result Assembled AsmFault) → IsText s ls → IsText s ms → assembly s ls ≡ r → assembly s ms ≡ r
 same_passes one s ls ms r p q is = subst (λ (x : List Line). assembly s x ≡ r) (one s ls ms p q) is
 

@@ -1,40 +1,49 @@
--- A fault at a line ends a pass.
-use Rattle.std.proofs.Common.{ℕ, suc, ◌≡◌, ◌<◌, List, ◌∷◌, length, get_or, drop, Result, Ok, Err, sym, ap, ◌∙◌, Option, drop-cons}
-use Rattle.asm_text.specs.declared.token.Token.{Token}
+-- A step over the lines, and over the statements, that are left.
+use Rattle.std.proofs.Common.{ℕ, suc, ◌≡◌, ◌<◌, ◌+◌, List, ◌∷◌, length, get_or, drop, Result, Ok, Err, refl, sym, ap, ◌∙◌, arith, drop-cons}
 use Rattle.asm_text.specs.declared.token.Line.{Line}
-use Rattle.assembler.specs.Faults.{at_line}
-use Rattle.asm_statements.specs.Statements.{label_read, statement_read}
-use Rattle.assembler.specs.Layout.{placed, all_placed}
-use Rattle.assembler.specs.Filling.{Scope, Filling, added, held, filled, all_filled, start_filling, contents_filled}
-use Rattle.assembler.specs.declared.fault.AsmFault.{AsmFault}
-use Rattle.assembler.specs.declared.fault.Cause.TheVariants.{Syntax}
-use Rattle.assembler.specs.declared.layout.Layout.{Layout}
-use Rattle.asm_statements.specs.declared.statement.Label.{Label}
 use Rattle.asm_statements.specs.declared.statement.Statement.{Statement}
-use Rattle.asm_statements.proofs.Stepping.{and_then-at, and_then-err}
-use Rattle.assembler.proofs.Sizes.{filled_stated, filled_put, filled_made}
-use Rattle.assembler.proofs.Assemblies.{contents_shown}
+use Rattle.assembler.specs.Labels.{SpotsByName}
+use Rattle.assembler.specs.Layout.{Laid, parsed, with_piece, all_placed}
+use Rattle.assembler.specs.Filling.{Contents, Scope, nothing, joined, added, held, all_held}
+use Rattle.asm_statements.specs.Steps.{and_then}
+use Rattle.assembler.specs.declared.fault.AsmFault.{AsmFault}
+use Rattle.assembler.specs.declared.layout.Piece.{Piece}
+use Rattle.asm_statements.proofs.Stepping.{and_then-err}
+use Rattle.assembler.proofs.Pieces.{joined_assoc}
 
-at_line-at : {A : Type 0} (source : List ℕ) (line : Line) (r : Result A ℕ) (x : A) → r ≡ Ok x → at_line source line Syntax r ≡ Ok x
-at_line-at {A} source line r x is = ap (λ (s : Result A ℕ). at_line source line Syntax s) is
+pub none-added : (r : Result Contents AsmFault) → added nothing r ≡ r
+none-added (Ok c) = refl
+none-added (Err f) = refl
 
-pub placing-stops : (source : List ℕ) (lines : List Line) (i : ℕ) (line : Line) (l : Layout) (f : AsmFault) → i < length lines → line ≡ get_or lines i line → placed source line l ≡ Err f → all_placed source (drop i lines) l ≡ Err f
-placing-stops source lines i line l f more is fault =
-    ap (λ (ls : List Line). all_placed source ls l) (drop-cons lines i line more)
-    ∙ ap (λ (x : Line). all_placed source (x ∷ drop (suc i) lines) l) (sym is)
-    ∙ and_then-err (placed source line l) (λ (m : Layout). all_placed source (drop (suc i) lines) m) f fault
+abbrev ok_contents : Contents → Result Contents AsmFault
+ok_contents c = Ok c
 
-pub filling-stops : (scope : Scope) (lines : List Line) (i : ℕ) (line : Line) (g : Filling) (f : AsmFault) → i < length lines → line ≡ get_or lines i line → filled scope line g ≡ Err f → all_filled scope (drop i lines) g ≡ Err f
-filling-stops scope lines i line g f more is fault =
-    ap (λ (ls : List Line). all_filled scope ls g) (drop-cons lines i line more)
-    ∙ ap (λ (x : Line). all_filled scope (x ∷ drop (suc i) lines) g) (sym is)
-    ∙ and_then-err (filled scope line g) (λ (h : Filling). all_filled scope (drop (suc i) lines) h) f fault
+-- what a statement comes to, and then others
+added-on : (o n : Contents) (here rest : Result Contents AsmFault) → added o here ≡ Ok n → added o (and_then here (λ (c : Contents). added c rest)) ≡ added n rest
+added-on o n (Ok c) (Ok d) is = let same : joined o c ≡ n = cc in ap ok_contents (sym (joined_assoc o c d) ∙ ap (λ (x : Contents). joined x d) same)
+added-on o n (Ok c) (Err f) is = refl
+added-on o n (Err f) rest is = absurd (let no : ⊥ = cc in no)
 
-pub contents-stop : (scope : Scope) (lines : List Line) (f : AsmFault) → all_filled scope lines start_filling ≡ Err f → contents_filled scope lines ≡ Err f
-contents-stop scope lines f is = and_then-err (all_filled scope lines start_filling) contents_shown f is
+added-stops : (o : Contents) (f : AsmFault) (here rest : Result Contents AsmFault) → added o here ≡ Err f → added o (and_then here (λ (c : Contents). added c rest)) ≡ Err f
+added-stops o f (Ok c) rest is = absurd (let no : ⊥ = cc in no)
+added-stops o f (Err g) rest is = is
 
-pub line-stops : (scope : Scope) (line : Line) (g : Filling) (r : Option Label × List Token) (s : Statement) (f : AsmFault) → label_read scope.source line.tokens ≡ Ok r → statement_read scope.source g.position.in_data line.end r.1 ≡ Ok s → added g.contents (held scope line g.position s) ≡ Err f → filled scope line g ≡ Err f
-line-stops scope line g r s f prefix body fault =
-    and_then-at (at_line scope.source line Syntax (label_read scope.source line.tokens)) (filled_stated scope line g) r (at_line-at scope.source line (label_read scope.source line.tokens) r prefix)
-    ∙ and_then-at (at_line scope.source line Syntax (statement_read scope.source g.position.in_data line.end r.1)) (filled_put scope line g) s (at_line-at scope.source line (statement_read scope.source g.position.in_data line.end r.1) s body)
-    ∙ and_then-err (added g.contents (held scope line g.position s)) (filled_made scope line g s) f fault
+next-held : (scope : Scope) (ps : List Piece) (i : ℕ) (p : Piece) → i < length ps → p ≡ get_or ps i p → all_held scope (drop i ps) ≡ all_held scope (p ∷ drop (suc i) ps)
+next-held scope ps i p more is = ap (all_held scope) (drop-cons ps i p more) ∙ ap (λ (x : Piece). all_held scope (x ∷ drop (suc i) ps)) (sym is)
+
+pub held-goes-on : (scope : Scope) (ps : List Piece) (i : ℕ) (p : Piece) (o n : Contents) → i < length ps → p ≡ get_or ps i p → added o (held scope p.line p.position p.statement) ≡ Ok n
+    → added n (all_held scope (drop (i + 1) ps)) ≡ added o (all_held scope (drop i ps))
+held-goes-on scope ps i p o n more is made =
+    let next : i + 1 ≡ suc i = omega arith in
+    ap (λ (k : ℕ). added n (all_held scope (drop k ps))) next
+    ∙ sym (ap (added o) (next-held scope ps i p more is) ∙ added-on o n (held scope p.line p.position p.statement) (all_held scope (drop (suc i) ps)) made)
+
+pub held-stops : (scope : Scope) (ps : List Piece) (i : ℕ) (p : Piece) (o : Contents) (f : AsmFault) → i < length ps → p ≡ get_or ps i p → added o (held scope p.line p.position p.statement) ≡ Err f
+    → added o (all_held scope (drop i ps)) ≡ Err f
+held-stops scope ps i p o f more is fault =
+    ap (added o) (next-held scope ps i p more is) ∙ added-stops o f (held scope p.line p.position p.statement) (all_held scope (drop (suc i) ps)) fault
+
+pub placing-stops : (source : List ℕ) (items rest : List Line) (line : Line) (l : Laid) (f : AsmFault) → items ≡ line ∷ rest → parsed source line l.position l.labels ≡ Err f → all_placed source items l ≡ Err f
+placing-stops source items rest line l f is fault =
+    ap (λ (ls : List Line). all_placed source ls l) is
+    ∙ and_then-err (parsed source line l.position l.labels) (λ (r : Statement × SpotsByName). all_placed source rest (with_piece l line r)) f fault

@@ -1,28 +1,23 @@
--- Both passes go through the same positions, and what the second one adds is as long as the first one counted.
+-- What a statement comes to is as long as its place counts it.
 use Rattle.std.proofs.Common.{ℕ, ℤ, suc, ◌≡◌, ◌+◌, ◌/◌, Bool, true, false, List, [], ◌∷◌, length, Result, Ok, Option, Some, None, refl, sym, ap, ◌∙◌, subst, arith, length-append, cond}
 use Rattle.std.specs.Option.{option_map, ok_or}
 use Rattle.std.proofs.lemmas.List.{length-replicate, length-map}
 use Rattle.formats.specs.declared.instr.Instr.{Instr}
-use Rattle.asm_text.specs.declared.token.Token.{Token}
 use Rattle.asm_text.specs.declared.token.Line.{Line}
 use Rattle.machine_model.proofs.Words.{length-bytes_of_words}
 use Rattle.asm_statements.specs.Steps.{and_then}
-use Rattle.asm_statements.specs.Statements.{label_read, statement_read}
 use Rattle.asm_statements.specs.Expansion.{expansion_of, word_count, words_taken}
 use Rattle.assembler.specs.Faults.{at_line}
-use Rattle.assembler.specs.Labels.{SpotsByName}
-use Rattle.assembler.specs.Layout.{counted, with_bytes, advanced, within, after, units_of, space_units, numbers_in, string_in, space_bytes, labelled, space_checked, placed, all_placed}
-use Rattle.assembler.specs.Filling.{Contents, Filling, Scope, nothing, joined, added, in_bytes, in_words, in_zeros, words_of_numbers, bytes_of_numbers, words_of_expansion, byte_of, instruction_of, instruction_held, bytes_held, held, filled, all_filled}
+use Rattle.assembler.specs.Layout.{counted, with_bytes, advanced, within, after, units_of, space_units, numbers_in, string_in, space_bytes}
+use Rattle.assembler.specs.Filling.{Contents, Scope, nothing, joined, in_bytes, in_words, in_zeros, words_of_numbers, bytes_of_numbers, words_of_expansion, byte_of, instruction_of, instruction_held, bytes_held, held}
 use Rattle.assembler.specs.declared.fault.AsmFault.{AsmFault}
-use Rattle.assembler.specs.declared.fault.Cause.TheVariants.{Syntax, Range}
+use Rattle.assembler.specs.declared.fault.Cause.TheVariants.{Range}
 use Rattle.assembler.specs.declared.layout.Position.{Position}
-use Rattle.assembler.specs.declared.layout.Layout.{Layout}
 use Rattle.asm_statements.specs.declared.mnemonic.Mnemonic.{Mnemonic}
 use Rattle.asm_statements.specs.declared.mnemonic.Mnemonic.TheVariants as form
 use Rattle.asm_statements.specs.declared.operands.Operands.{Operands}
 use Rattle.asm_statements.specs.declared.expansion.Expansion.{Expansion}
 use Rattle.asm_statements.specs.declared.expansion.Expansion.TheVariants.{One, Two}
-use Rattle.asm_statements.specs.declared.statement.Label.{Label}
 use Rattle.asm_statements.specs.declared.statement.Statement.{Statement}
 use Rattle.asm_statements.specs.declared.statement.Statement.TheVariants as statement
 use Rattle.asm_statements.proofs.Stepping.{and_then-ok, ok_or-ok}
@@ -115,7 +110,7 @@ measured-bytes p c bytes m = record {
   bytes = counted-more p.bytes (length c.bytes) (length bytes) m.bytes ∙ ap counted (sym (length-append c.bytes bytes));
 }
 
-measured-nothing : (p : Position) (c : Contents) → IsMeasured p c → IsMeasured p (joined c nothing)
+pub measured-nothing : (p : Position) (c : Contents) → IsMeasured p c → IsMeasured p (joined c nothing)
 measured-nothing p c m = record { words = m.words ∙ ap counted (omega (arith, length-append c.cells [])); bytes = m.bytes ∙ ap counted (omega (arith, length-append c.bytes [])) }
 
 measured-byte_list : (source : List ℕ) (line : Line) (p : Position) (c d : Contents) → IsMeasured p c → bytes_held source line ≡ Ok d → IsMeasured (with_bytes p (counted (length (numbers_in line.tokens)))) (joined c d)
@@ -138,7 +133,7 @@ measured-same : (p : Position) (c d e : Contents) → ◌≡◌ {A = Result Cont
 measured-same p c d e is m = subst (λ (x : Contents). IsMeasured p (joined c x)) (same_contents d e is) m
 
 -- after a statement the position counts what the sections hold
-measured-statement : (scope : Scope) (line : Line) (p : Position) (s : Statement) (c d : Contents) → IsMeasured p c → held scope line p s ≡ Ok d → IsMeasured (after p s line.tokens) (joined c d)
+pub measured-statement : (scope : Scope) (line : Line) (p : Position) (s : Statement) (c d : Contents) → IsMeasured p c → held scope line p s ≡ Ok d → IsMeasured (after p s line.tokens) (joined c d)
 measured-statement scope line p statement.Nothing c d m is = measured-same p c nothing d is (measured-nothing p c m)
 measured-statement scope line p statement.Text c d m is = measured-same (within p false) c nothing d is (measured-nothing (within p false) c (record { words = m.words; bytes = m.bytes }))
 measured-statement scope line p statement.Data c d m is = measured-same (within p true) c nothing d is (measured-nothing (within p true) c (record { words = m.words; bytes = m.bytes }))
@@ -153,124 +148,3 @@ measured-statement scope line p (statement.Space n at) c d m is =
     measured-same (advanced p (counted (space_units n p.in_data))) c (in_zeros p.in_data line.number (space_bytes n)) d is
     (measured-put p (space_units n p.in_data) c (in_zeros p.in_data line.number (space_bytes n)) m (long-zeros p.in_data line.number n))
 measured-statement scope line p (statement.Instruction mnemonic o) c d m is = measured-instruction scope.source line p mnemonic o _ c d m is
-
--- what a line of the first pass shows
-pub record IsPlaced (source : List ℕ) (line : Line) (l m : Layout) : Type 0 where
-  pub split : Option Label × List Token
-  pub made : Statement
-  pub prefix : label_read source line.tokens ≡ Ok split
-  pub label : labelled source line split.0 l.position l.labels ≡ Ok m.labels
-  pub body : statement_read source l.position.in_data line.end split.1 ≡ Ok made
-  pub space : space_checked source line l.position.in_data made ≡ Ok tt
-  pub position : after l.position made line.tokens ≡ m.position
-
-pub same_layout : (l m : Layout) → ◌≡◌ {A = Result Layout AsmFault} (Ok l) (Ok m) → l ≡ m
-same_layout l m is = cc
-
--- the steps of the first pass on a line, from the last
-abbrev placed_checked : List ℕ → Line → Layout → SpotsByName → Statement → Result Layout AsmFault
-placed_checked source line l labels s = and_then (space_checked source line l.position.in_data s) (λ _. Ok (record { position = after l.position s line.tokens; labels = labels }))
-
-abbrev placed_stated : List ℕ → Line → Layout → (Option Label × List Token) → SpotsByName → Result Layout AsmFault
-placed_stated source line l r labels = and_then (at_line source line Syntax (statement_read source l.position.in_data line.end r.1)) (λ s. placed_checked source line l labels s)
-
-abbrev placed_labelled : List ℕ → Line → Layout → (Option Label × List Token) → Result Layout AsmFault
-placed_labelled source line l r = and_then (labelled source line r.0 l.position l.labels) (λ labels. placed_stated source line l r labels)
-
-ok_labels : (r : Result SpotsByName AsmFault) (labels given : SpotsByName) → labels ≡ given → r ≡ Ok labels → r ≡ Ok given
-ok_labels r labels given same is = subst (λ (x : SpotsByName). r ≡ Ok x) same is
-
-pub placed-is : (source : List ℕ) (line : Line) (l m : Layout) → placed source line l ≡ Ok m → IsPlaced source line l m
-placed-is source line l m is =
-    let (r, prefix, is2) = and_then-ok (at_line source line Syntax (label_read source line.tokens)) (placed_labelled source line l) m is in
-    let (labels, label, is3) = and_then-ok (labelled source line r.0 l.position l.labels) (placed_stated source line l r) m is2 in
-    let (s, body, is4) = and_then-ok (at_line source line Syntax (statement_read source l.position.in_data line.end r.1)) (placed_checked source line l labels) m is3 in
-    let (_, space, is5) = and_then-ok (space_checked source line l.position.in_data s) (λ (u : Unit {0}). Ok (record { position = after l.position s line.tokens; labels = labels })) m is4 in
-    let same : record { position = after l.position s line.tokens; labels = labels } ≡ m = same_layout (record { position = after l.position s line.tokens; labels = labels }) m is5 in
-    record {
-      split = r;
-      made = s;
-      prefix = at_line-ok source line Syntax (label_read source line.tokens) r prefix;
-      label = ok_labels (labelled source line r.0 l.position l.labels) labels m.labels (ap (λ (x : Layout). x.labels) same) label;
-      body = at_line-ok source line Syntax (statement_read source l.position.in_data line.end r.1) s body;
-      space = space;
-      position = ap (λ (x : Layout). x.position) same;
-    }
-
--- what a line of the second pass shows
-pub record IsFilled (scope : Scope) (line : Line) (f g : Filling) : Type 0 where
-  pub split : Option Label × List Token
-  pub made : Statement
-  pub prefix : label_read scope.source line.tokens ≡ Ok split
-  pub body : statement_read scope.source f.position.in_data line.end split.1 ≡ Ok made
-  pub position : after f.position made line.tokens ≡ g.position
-  pub more : Contents
-  pub comes : held scope line f.position made ≡ Ok more
-  pub contents : joined f.contents more ≡ g.contents
-
-pub same_filling : (f g : Filling) → ◌≡◌ {A = Result Filling AsmFault} (Ok f) (Ok g) → f ≡ g
-same_filling f g is = cc
-
--- the steps of the second pass on a line, from the last
-abbrev pub filled_made : Scope → Line → Filling → Statement → Contents → Result Filling AsmFault
-filled_made scope line f s c = Ok (record { position = after f.position s line.tokens; contents = c })
-
-abbrev pub filled_put : Scope → Line → Filling → Statement → Result Filling AsmFault
-filled_put scope line f s = and_then (added f.contents (held scope line f.position s)) (filled_made scope line f s)
-
-abbrev pub filled_stated : Scope → Line → Filling → (Option Label × List Token) → Result Filling AsmFault
-filled_stated scope line f r = and_then (at_line scope.source line Syntax (statement_read scope.source f.position.in_data line.end r.1)) (λ s. filled_put scope line f s)
-
-pub filled-is : (scope : Scope) (line : Line) (f g : Filling) → filled scope line f ≡ Ok g → IsFilled scope line f g
-filled-is scope line f g is =
-    let (r, prefix, is2) = and_then-ok (at_line scope.source line Syntax (label_read scope.source line.tokens)) (filled_stated scope line f) g is in
-    let (s, body, is3) = and_then-ok (at_line scope.source line Syntax (statement_read scope.source f.position.in_data line.end r.1)) (filled_put scope line f) g is2 in
-    let (c, put, is4) = and_then-ok (added f.contents (held scope line f.position s)) (filled_made scope line f s) g is3 in
-    let (more, comes, made) = and_then-ok (held scope line f.position s) (λ (d : Contents). Ok (joined f.contents d)) c put in
-    let same : record { position = after f.position s line.tokens; contents = c } ≡ g = same_filling (record { position = after f.position s line.tokens; contents = c }) g is4 in
-    record {
-      split = r;
-      made = s;
-      prefix = at_line-ok scope.source line Syntax (label_read scope.source line.tokens) r prefix;
-      body = at_line-ok scope.source line Syntax (statement_read scope.source f.position.in_data line.end r.1) s body;
-      position = ap (λ (x : Filling). x.position) same;
-      more = more;
-      comes = comes;
-      contents = same_contents (joined f.contents more) c made ∙ ap (λ (x : Filling). x.contents) same;
-    }
-
-pub same_split : (source : List ℕ) (line : Line) (a b : Option Label × List Token) → label_read source line.tokens ≡ Ok a → label_read source line.tokens ≡ Ok b → a ≡ b
-same_split source line a b p q = let same : ◌≡◌ {A = Result (Option Label × List Token) ℕ} (Ok a) (Ok b) = sym p ∙ q in cc
-
-pub same_statement : (r : Result Statement ℕ) (s t : Statement) → r ≡ Ok s → r ≡ Ok t → s ≡ t
-same_statement r s t p q = let same : ◌≡◌ {A = Result Statement ℕ} (Ok s) (Ok t) = sym p ∙ q in cc
-
--- from one position both passes go to one position
-pub same_position : (scope : Scope) (line : Line) (l m : Layout) (f g : Filling) → l.position ≡ f.position → placed scope.source line l ≡ Ok m → filled scope line f ≡ Ok g → m.position ≡ g.position
-same_position scope line l m f g at is js =
-    let first : IsPlaced scope.source line l m = placed-is scope.source line l m is in
-    let second : IsFilled scope line f g = filled-is scope line f g js in
-    let split : first.split ≡ second.split = same_split scope.source line first.split second.split first.prefix second.prefix in
-    let body : statement_read scope.source f.position.in_data line.end second.split.1 ≡ Ok first.made =
-    subst (λ (p : Position). statement_read scope.source p.in_data line.end second.split.1 ≡ Ok first.made) at
-    (subst (λ (r : Option Label × List Token). statement_read scope.source l.position.in_data line.end r.1 ≡ Ok first.made) split first.body) in
-    let made : first.made ≡ second.made = same_statement (statement_read scope.source f.position.in_data line.end second.split.1) first.made second.made body second.body in
-    sym first.position ∙ ap (λ (p : Position). after p first.made line.tokens) at ∙ ap (λ (s : Statement). after f.position s line.tokens) made ∙ second.position
-
-pub measured-filled : (scope : Scope) (line : Line) (f g : Filling) → IsMeasured f.position f.contents → filled scope line f ≡ Ok g → IsMeasured g.position g.contents
-measured-filled scope line f g m is =
-    let step : IsFilled scope line f g = filled-is scope line f g is in
-    subst (λ (p : Position). IsMeasured p g.contents) step.position
-    (subst (λ (x : Contents). IsMeasured (after f.position step.made line.tokens) x) step.contents (measured-statement scope line f.position step.made f.contents step.more m step.comes))
-
--- after all lines the first pass's position counts what the second one made
-pub measured-all : (scope : Scope) (lines : List Line) (l m : Layout) (f g : Filling) → l.position ≡ f.position → IsMeasured f.position f.contents → all_placed scope.source lines l ≡ Ok m → all_filled scope lines f ≡ Ok g → IsMeasured m.position g.contents
-measured-all scope [] l m f g at measured is js =
-    let same : l ≡ m = same_layout l m is in
-    let made : f ≡ g = same_filling f g js in
-    subst (λ (x : Layout). IsMeasured x.position g.contents) same
-    (subst (λ (x : Filling). IsMeasured l.position x.contents) made (subst (λ (p : Position). IsMeasured p f.contents) (sym at) measured))
-measured-all scope (line ∷ lines) l m f g at measured is js =
-    let (l2, placed_is, is2) = and_then-ok (placed scope.source line l) (λ (x : Layout). all_placed scope.source lines x) m is in
-    let (f2, filled_is, js2) = and_then-ok (filled scope line f) (λ (x : Filling). all_filled scope lines x) g js in
-    measured-all scope lines l2 m f2 g (same_position scope line l l2 f f2 at placed_is filled_is) (measured-filled scope line f f2 measured filled_is) is2 js2

@@ -1,5 +1,5 @@
--- Each word of text is a number below 2^32.
-use Rattle.std.proofs.Common.{ℕ, ℤ, ◌≡◌, ◌+◌, ◌*◌, ◌/◌, ◌%◌, ◌^◌, ◌<◌, Bool, true, false, List, [], ◌∷◌, Result, Ok, Option, Some, None, refl, sym, ap, ◌∙◌, subst, arith, lit<}
+-- Each word of text is a number below 2^32, and has the number of its line.
+use Rattle.std.proofs.Common.{ℕ, ℤ, ◌≡◌, ◌+◌, ◌*◌, ◌/◌, ◌%◌, ◌^◌, ◌<◌, ◌≤◌, Bool, true, false, List, [], ◌∷◌, length, Result, Ok, Option, Some, None, refl, sym, ap, ◌∙◌, subst, arith, lit<}
 use Rattle.std.specs.Prelude.{All}
 use Rattle.std.specs.Option.{ok_or}
 use Rattle.std.proofs.lemmas.List.Elements.{All-nil, All-cons, All-head, All-tail, All-append, All-map, All-weaker, All-replicate}
@@ -8,14 +8,14 @@ use Rattle.formats.specs.Meaning.{Means, IsU, IsI, IsS, IsB, IsShift, IsR}
 use Rattle.formats.specs.declared.instr.Instr.{Instr}
 use Rattle.formats.specs.declared.instr.Instr.TheVariants as instr
 use Rattle.formats.proofs.Fits.{branch-funct3, immediate-funct3, load-funct3, register-funct3, register-funct7, shift-funct3, shift-funct7, store-funct3}
-use Rattle.machine_model.specs.Images.{Program}
+use Rattle.asm_text.specs.Tokens.{Leads}
 use Rattle.asm_text.specs.declared.token.Line.{Line}
 use Rattle.asm_statements.specs.Encoding.{fields_word, complement, r_word, shift_word, i_word, s_word, b_word, u_word, j_word, word_of}
 use Rattle.asm_statements.specs.Expansion.{expansion_of, modulo_word}
 use Rattle.assembler.specs.Faults.{at_line}
-use Rattle.assembler.specs.Layout.{start_layout, all_placed, numbers_in, string_in, space_bytes}
-use Rattle.assembler.specs.Filling.{Contents, Filling, Scope, start_filling, nothing, in_bytes, in_words, in_zeros, words_of_numbers, bytes_of_numbers, words_of_expansion, instruction_held, bytes_held, held, filled, all_filled, contents_filled}
-use Rattle.assembler.specs.Assembly.{scope_of, entry_of, Assembled, assembled, assembly, rows_from}
+use Rattle.assembler.specs.Layout.{Laid, numbers_in, string_in, space_bytes}
+use Rattle.assembler.specs.Filling.{Contents, Scope, nothing, in_bytes, in_words, in_zeros, words_of_numbers, bytes_of_numbers, words_of_expansion, instruction_held, bytes_held, held, all_held}
+use Rattle.assembler.specs.Sections.{lines_of}
 use Rattle.assembler.specs.declared.fault.AsmFault.{AsmFault}
 use Rattle.assembler.specs.declared.fault.Cause.TheVariants.{Range}
 use Rattle.assembler.specs.declared.layout.Position.{Position}
@@ -26,14 +26,14 @@ use Rattle.asm_statements.specs.declared.expansion.Expansion.TheVariants.{One, T
 use Rattle.asm_statements.specs.declared.statement.Statement.{Statement}
 use Rattle.asm_statements.specs.declared.statement.Statement.TheVariants as statement
 use Rattle.assembler.specs.declared.filling.Cell.{Cell}
-use Rattle.assembler.specs.declared.listing.ListingRow.{ListingRow}
+use Rattle.assembler.specs.declared.layout.Piece.{Piece}
 use Rattle.asm_statements.proofs.Encodings.{complement-signed}
 use Rattle.asm_statements.proofs.Stepping.{and_then-ok, ok_or-ok}
 use Rattle.assembler.proofs.Stepping.{at_line-ok}
 use Rattle.asm_statements.proofs.Registers.{HasRegisters, IsKnown, statement-known}
 use Rattle.asm_statements.proofs.Expansions.{AreMeant, expansion-meant, modulo-below}
-use Rattle.assembler.proofs.Sizes.{IsFilled, filled-is, same_filling, same_contents}
-use Rattle.assembler.proofs.Assemblies.{assembly_from, assembly_after, made_of, contents_shown, same_assembled}
+use Rattle.assembler.proofs.Sizes.{same_contents}
+use Rattle.assembler.proofs.Pieces.{IsPlaced, IsHeld, held-is}
 
 -- ---- the word of an instruction that it means
 
@@ -157,9 +157,9 @@ word-below instr.Ebreak m = lit< tt
 -- ---- the cells that statements come to
 
 -- a word below 2^32, of the line of this number
-pub record IsCell (number : ℕ) (cell : Cell) : Type 0 where
-  pub small : cell.word < 2 ^ 32
-  pub line : cell.line ≡ number
+record IsCell (number : ℕ) (cell : Cell) : Type 0 where
+  small : cell.word < 2 ^ 32
+  line : cell.line ≡ number
 
 none-cells : (line : ℕ) → All (IsCell line) []
 none-cells line = All-nil (IsCell line)
@@ -197,7 +197,7 @@ bytes-cells source line d is =
     let (bytes, _, made) = and_then-ok (at_line source line Range (bytes_of_numbers (numbers_in line.tokens))) (λ (x : List ℕ). Ok (in_bytes x)) d is in
     same-cells line.number (in_bytes bytes) d made (none-cells line.number)
 
-pub held-cells : (scope : Scope) (line : Line) (p : Position) (s : Statement) (d : Contents) → IsKnown p.in_data s → held scope line p s ≡ Ok d → All (IsCell line.number) d.cells
+held-cells : (scope : Scope) (line : Line) (p : Position) (s : Statement) (d : Contents) → IsKnown p.in_data s → held scope line p s ≡ Ok d → All (IsCell line.number) d.cells
 held-cells scope line p statement.Nothing d k is = same-cells line.number nothing d is (none-cells line.number)
 held-cells scope line p statement.Text d k is = same-cells line.number nothing d is (none-cells line.number)
 held-cells scope line p statement.Data d k is = same-cells line.number nothing d is (none-cells line.number)
@@ -209,48 +209,29 @@ held-cells scope line p statement.Ascii d k is = same-cells line.number (in_byte
 held-cells scope line p (statement.Space n at) d k is = same-cells line.number (in_zeros p.in_data line.number (space_bytes n)) d is (zeros-cells p.in_data line.number (space_bytes n))
 held-cells scope line p (statement.Instruction m o) d k is = instruction-cells scope.source line p.in_data m o _ d k is
 
--- ---- the words of all lines
+-- ---- the cells of all lines
 
-abbrev IsWord : Cell → Type 0
-IsWord cell = cell.word < 2 ^ 32
+-- a word below 2^32, of a line from one number up to another
+pub record IsOf (low high : ℕ) (cell : Cell) : Type 0 where
+  pub small : cell.word < 2 ^ 32
+  pub from : low ≤ cell.line
+  pub below : cell.line < high
 
--- each word of text is below 2^32
-abbrev AreWords : Contents → Type 0
-AreWords c = All IsWord c.cells
+-- lines that are counted from a number on
+abbrev pub AreCounted : ℕ → List Line → Type 0
+AreCounted n [] = Unit {0}
+AreCounted n (l ∷ ls) = (l.number ≡ n) × AreCounted (n + 1) ls
 
-words-same : (c d : Contents) → ◌≡◌ {A = Result Contents AsmFault} (Ok c) (Ok d) → AreWords c → AreWords d
-words-same c d is all = subst (λ (x : Contents). AreWords x) (same_contents c d is) all
-
-words-filled : (scope : Scope) (line : Line) (f g : Filling) → filled scope line f ≡ Ok g → AreWords f.contents → AreWords g.contents
-words-filled scope line f g is all =
-    let step : IsFilled scope line f g = filled-is scope line f g is in
-    let cells : All (IsCell line.number) step.more.cells = held-cells scope line f.position step.made step.more (statement-known scope.source f.position.in_data line.end step.split.1 step.made step.body) step.comes in
-    subst (λ (x : Contents). AreWords x) step.contents
-    (All-append IsWord f.contents.cells step.more.cells all (All-weaker (IsCell line.number) IsWord (λ (x : Cell) is. is.small) step.more.cells cells))
-
-words-lines : (scope : Scope) (lines : List Line) (f g : Filling) → all_filled scope lines f ≡ Ok g → AreWords f.contents → AreWords g.contents
-words-lines scope [] f g is all = subst (λ (x : Filling). AreWords x.contents) (same_filling f g is) all
-words-lines scope (line ∷ lines) f g is all =
-    let (h, here, rest) = and_then-ok (filled scope line f) (λ (x : Filling). all_filled scope lines x) g is in
-    words-lines scope lines h g rest (words-filled scope line f h here all)
-
-words-contents : (scope : Scope) (lines : List Line) (c : Contents) → contents_filled scope lines ≡ Ok c → AreWords c
-words-contents scope lines c is =
-    let (f, made, shows) = and_then-ok (all_filled scope lines start_filling) contents_shown c is in
-    words-same f.contents c shows (words-lines scope lines start_filling f made (All-nil IsWord))
-
-words-rows : (at : ℕ) (cells : List Cell) → All IsWord cells → All (λ (row : ListingRow). row.word < 2 ^ 32) (rows_from at cells)
-words-rows at [] all = All-nil (λ (row : ListingRow). row.word < 2 ^ 32)
-words-rows at (c ∷ cells) all =
-    All-cons (λ (row : ListingRow). row.word < 2 ^ 32) (record { address = at; word = c.word; line = c.line }) (rows_from (at + 4) cells)
-    (All-head IsWord c cells all) (words-rows (at + 4) cells (All-tail IsWord c cells all))
-
--- each listed word is below 2^32
-pub words-made : (source : List ℕ) (lines : List Line) (image : Program) (listing : List ListingRow) → assembly source lines ≡ Ok (record { image = image; listing = listing }) → All (λ (row : ListingRow). row.word < 2 ^ 32) listing
-words-made source lines image listing is =
-    let wanted : Assembled = record { image = image; listing = listing } in
-    let (l, _, is2) = and_then-ok (all_placed source lines start_layout) (assembly_from source lines) wanted is in
-    let (entry, _, is3) = and_then-ok (entry_of l) (assembly_after source lines l) wanted is2 in
-    let (c, fills, is4) = and_then-ok (contents_filled (scope_of source l) lines) (made_of entry) wanted is3 in
-    subst (λ (a : Assembled). All (λ (row : ListingRow). row.word < 2 ^ 32) a.listing) (same_assembled (assembled entry c) wanted is4)
-    (words-rows 65536 c.cells (words-contents (scope_of source l) lines c fills))
+-- statements of lines that are counted come to cells of these lines
+pub lines-cells : (scope : Scope) (source : List ℕ) (n : ℕ) (ps : List Piece) (l m : Laid) (c : Contents) → AreCounted n (lines_of ps) → Leads (IsPlaced source) l ps m → all_held scope ps ≡ Ok c → All (IsOf n (n + length ps)) c.cells
+lines-cells scope source n [] l m c counts steps is = subst (λ (x : Contents). All (IsOf n (n + 0)) x.cells) (same_contents nothing c is) (All-nil (IsOf n (n + 0)))
+lines-cells scope source n (p ∷ ps) l m c counts steps is =
+    let h : IsHeld scope p ps c = held-is scope p ps c is in
+    let step : IsPlaced source l p steps.0 = steps.1 in
+    let number : p.line.number ≡ n = counts.0 in
+    let here : All (IsCell p.line.number) h.first.cells = held-cells scope p.line p.position p.statement h.first (statement-known source p.position.in_data p.line.end step.rest p.statement step.body) h.here in
+    let more : All (IsOf (n + 1) (n + 1 + length ps)) h.more.cells = lines-cells scope source (n + 1) ps steps.0 m h.more counts.1 steps.2 h.onward in
+    subst (λ (x : Contents). All (IsOf n (n + length (p ∷ ps))) x.cells) h.whole
+    (All-append (IsOf n (n + length (p ∷ ps))) h.first.cells h.more.cells
+    (All-weaker (IsCell p.line.number) (IsOf n (n + length (p ∷ ps))) (λ (x : Cell) is. record { small = is.small; from = omega (arith, is.line, number); below = omega (arith, is.line, number) }) h.first.cells here)
+    (All-weaker (IsOf (n + 1) (n + 1 + length ps)) (IsOf n (n + length (p ∷ ps))) (λ (x : Cell) is. record { small = is.small; from = omega (arith, is.from); below = omega (arith, is.below) }) h.more.cells more))

@@ -7,12 +7,11 @@ use Rattle.asm_text.specs.Text.{IsText, FirstFault}
 use Rattle.asm_text.specs.declared.token.Line.{Line}
 use Rattle.asm_statements.specs.Steps.{and_then}
 use Rattle.assembler.specs.Faults.{whole}
-use Rattle.assembler.specs.Layout.{start_layout, all_placed}
-use Rattle.assembler.specs.Filling.{Scope, Contents, contents_filled}
+use Rattle.assembler.specs.Layout.{Laid, start_layout, all_placed}
+use Rattle.assembler.specs.Filling.{Scope, Contents, all_held}
 use Rattle.assembler.specs.declared.fault.AsmFault.{AsmFault}
 use Rattle.assembler.specs.declared.fault.Cause.TheVariants.{Syntax, NoStart, TooLarge}
 use Rattle.assembler.specs.declared.labels.Spot.{Spot}
-use Rattle.assembler.specs.declared.layout.Layout.{Layout}
 use Rattle.assembler.specs.declared.filling.Cell.{Cell}
 use Rattle.assembler.specs.declared.listing.ListingRow.{ListingRow}
 
@@ -34,7 +33,7 @@ abbrev pub IsTextAddress : ℕ → ℕ → Type 0
 IsTextAddress words at = (at % 4 ≡ 0) × (65536 ≤ at) × (at < 65536 + 4 * words)
 
 -- where the program begins: text and data have at most 60 pages, and `_start` stands in text
-abbrev pub entry_of : Layout → Result ℕ AsmFault
+abbrev pub entry_of : Laid → Result ℕ AsmFault
 entry_of l =
     if nat_lt 60 (pages (4 * l.position.words) + pages l.position.bytes) then Err (whole TooLarge)
     else start_at (get l.labels (codes "_start")) l.position.words
@@ -71,30 +70,30 @@ pub record Assembled : Type 0 where
 abbrev pub assembled : ℕ → Contents → Assembled
 assembled entry c = record { image = image_of entry c; listing = rows_from 65536 c.cells }
 
--- what the second pass knows after the first
-abbrev pub scope_of : List ℕ → Layout → Scope
+-- what replaces labels, by where they stand
+abbrev pub scope_of : List ℕ → Laid → Scope
 scope_of source l = record { source = source; labels = l.labels; data_base = data_base l.position.words }
 
--- what the passes make of the lines of a source, or their first fault
+-- What the lines of a source come to, or their first fault: the statements, where the program begins, what the statements hold.
 abbrev pub assembly : List ℕ → List Line → Result Assembled AsmFault
 assembly source lines =
     and_then (all_placed source lines start_layout) (λ l.
     and_then (entry_of l) (λ entry.
-    and_then (contents_filled (scope_of source l) lines) (λ c.
+    and_then (all_held (scope_of source l) l.pieces) (λ c.
     Ok (assembled entry c))))
 
 -- the longest source, in bytes
 abbrev pub source_limit : ℕ
 source_limit = 1048576
 
--- A source has this image and this listing: it is not too long, and the passes make them of its lines.
+-- A source has this image and this listing: it is not too long, and its lines come to them.
 pub record Assembles (source : List ℕ) (image : Program) (listing : List ListingRow) : Type 0 where
   pub fits : length source ≤ source_limit
   pub lines : List Line
   pub text : IsText source lines
   pub made : assembly source lines ≡ Ok (record { image = image; listing = listing })
 
--- A source has this first fault: it is too long; or its tokens have a fault; or the passes find it in its lines.
+-- A source has this first fault: it is too long; or its tokens have a fault; or its lines come to this one.
 pub data FaultOf (source : List ℕ) (fault : AsmFault) : Type 0 where
   too_long : source_limit < length source → fault ≡ whole TooLarge → FaultOf source fault
   in_tokens : length source ≤ source_limit → FirstFault source fault.line fault.column → fault.why ≡ Syntax → FaultOf source fault

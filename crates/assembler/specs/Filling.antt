@@ -1,4 +1,4 @@
--- The second pass: what each statement comes to, one after the other, labels being replaced by their addresses.
+-- What each statement comes to, one after the other, labels being replaced by their addresses.
 use Rattle.std.specs.Prelude.{ℕ, ℤ, pos, negsuc, ◌+◌, ◌-◌, ◌*◌, ◌/◌, ◌+ℤ◌, ◌-ℤ◌, Bool, true, false, nat_lt, if◌then◌else◌, List, [], ◌∷◌, ◌++◌, map, replicate, Option, Some, None, Result, Ok, Err}
 use Rattle.std.specs.Option.{option_map, ok_or}
 use Rattle.std.specs.FinMap.{get}
@@ -7,16 +7,16 @@ use Rattle.machine_model.specs.Images.{bytes_of_words}
 use Rattle.asm_text.specs.declared.token.Line.{Line}
 use Rattle.asm_statements.specs.Steps.{and_then}
 use Rattle.asm_statements.specs.Tokens.{text_at}
-use Rattle.asm_statements.specs.Statements.{label_read, statement_read}
 use Rattle.asm_statements.specs.Encoding.{word_of}
 use Rattle.asm_statements.specs.Expansion.{expansion_of, modulo_word}
 use Rattle.assembler.specs.Faults.{fault_at, at_line}
 use Rattle.assembler.specs.Labels.{SpotsByName}
-use Rattle.assembler.specs.Layout.{start, spot_of, after, numbers_in, string_in, space_bytes}
+use Rattle.assembler.specs.Layout.{spot_of, numbers_in, string_in, space_bytes}
 use Rattle.assembler.specs.declared.fault.AsmFault.{AsmFault}
-use Rattle.assembler.specs.declared.fault.Cause.TheVariants.{Syntax, UnknownName, Range}
+use Rattle.assembler.specs.declared.fault.Cause.TheVariants.{UnknownName, Range}
 use Rattle.assembler.specs.declared.labels.Spot.{Spot}
 use Rattle.assembler.specs.declared.layout.Position.{Position}
+use Rattle.assembler.specs.declared.layout.Piece.{Piece}
 use Rattle.asm_statements.specs.declared.mnemonic.Mnemonic.{Mnemonic}
 use Rattle.asm_statements.specs.declared.operands.Value.{Value}
 use Rattle.asm_statements.specs.declared.operands.Value.TheVariants as operand
@@ -43,15 +43,7 @@ joined c d = record { cells = c.cells ++ d.cells; bytes = c.bytes ++ d.bytes }
 abbrev pub shown : Output → Contents
 shown output = record { cells = output.cells.items; bytes = output.bytes.items }
 
--- The sections so far: where the next statement goes, and what they hold.
-pub record Filling : Type 0 where
-  pub position : Position
-  pub contents : Contents
-
-abbrev pub start_filling : Filling
-start_filling = record { position = start; contents = nothing }
-
--- What the second pass knows: the source, where its labels stand, and where data begins.
+-- What replaces labels: the source, where its labels stand, and where data begins.
 pub record Scope : Type 0 where
   pub source : List ℕ
   pub labels : SpotsByName
@@ -134,20 +126,7 @@ held scope line p (statement.Space n at) = Ok (in_zeros p.in_data line.number (s
 held scope line p (statement.Instruction m o) =
     instruction_held scope.source line p.in_data m o (distance_of scope (pos (address_of scope.data_base (spot_of p))) o.value)
 
--- The sections after a line. After a first pass without a fault no Syntax comes here: that pass read each line from the
--- same position, with the same outcome.
-abbrev pub filled : Scope → Line → Filling → Result Filling AsmFault
-filled scope line f =
-    and_then (at_line scope.source line Syntax (label_read scope.source line.tokens)) (λ r.
-    and_then (at_line scope.source line Syntax (statement_read scope.source f.position.in_data line.end r.1)) (λ s.
-    and_then (added f.contents (held scope line f.position s)) (λ c.
-    Ok (record { position = after f.position s line.tokens; contents = c }))))
-
--- the sections after all lines, or the first fault
-abbrev pub all_filled : Scope → List Line → Filling → Result Filling AsmFault
-all_filled scope [] f = Ok f
-all_filled scope (line ∷ lines) f = and_then (filled scope line f) (λ g. all_filled scope lines g)
-
--- what the sections hold after all lines, or the first fault
-abbrev pub contents_filled : Scope → List Line → Result Contents AsmFault
-contents_filled scope lines = and_then (all_filled scope lines start_filling) (λ f. Ok f.contents)
+-- what statements come to, one after the other, or the first fault
+abbrev pub all_held : Scope → List Piece → Result Contents AsmFault
+all_held scope [] = Ok nothing
+all_held scope (p ∷ ps) = and_then (held scope p.line p.position p.statement) (λ c. added c (all_held scope ps))

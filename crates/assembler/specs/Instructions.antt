@@ -7,7 +7,7 @@ use Rattle.asm_text.specs.declared.token.Token.{Token}
 use Rattle.asm_text.specs.declared.token.Line.{Line}
 use Rattle.asm_statements.specs.Statements.{label_read, statement_read}
 use Rattle.asm_statements.specs.Expansion.{expansion_of}
-use Rattle.assembler.specs.Layout.{start_layout, all_placed}
+use Rattle.assembler.specs.Layout.{Laid, start_layout, all_placed}
 use Rattle.assembler.specs.Filling.{distance_of, instructions_of}
 use Rattle.assembler.specs.Assembly.{scope_of}
 use Rattle.asm_statements.specs.declared.mnemonic.Mnemonic.{Mnemonic}
@@ -15,7 +15,6 @@ use Rattle.asm_statements.specs.declared.operands.Operands.{Operands}
 use Rattle.asm_statements.specs.declared.expansion.Expansion.{Expansion}
 use Rattle.asm_statements.specs.declared.statement.Label.{Label}
 use Rattle.asm_statements.specs.declared.statement.Statement.TheVariants.{Instruction}
-use Rattle.assembler.specs.declared.layout.Layout.{Layout}
 use Rattle.assembler.specs.declared.listing.ListingRow.{ListingRow}
 
 -- A line's statement is an instruction in text, after lines that have so many words of text.
@@ -24,7 +23,7 @@ pub record IsInstruction (source : List ℕ) (before : List Line) (line : Line) 
   pub statement : List Token
   pub parted : label_read source line.tokens ≡ Ok (label, statement)
   pub read : statement_read source false line.end statement ≡ Ok (Instruction m o)
-  pub layout : Layout
+  pub layout : Laid
   pub placed : all_placed source before start_layout ≡ Ok layout
   pub in_text : layout.position.in_data ≡ false
   pub as_many : layout.position.words ≡ words
@@ -39,7 +38,7 @@ AreInstructions at number (i ∷ instructions) (row ∷ rows) =
 -- A line's instruction is listed. Where the labels stand as all lines place them, it expands to instructions. After a row for each
 -- word of text before it come its rows: those instructions from the address there on, and the only rows of the line.
 pub record IsListedInstruction (source : List ℕ) (lines : List Line) (line : Line) (words : ℕ) (m : Mnemonic) (o : Operands) (listing : List ListingRow) : Type 0 where
-  pub layout : Layout
+  pub layout : Laid
   pub placed : all_placed source lines start_layout ≡ Ok layout
   pub number : ℤ
   pub value : distance_of (scope_of source layout) (pos (65536 + 4 * words)) o.value ≡ Some number

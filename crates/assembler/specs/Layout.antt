@@ -1,6 +1,6 @@
--- The first pass: each line's statement goes to the section that the last `.text` or `.data` before it names, after what
--- is there, and a label stands where its line begins.
-use Rattle.std.specs.Prelude.{ℕ, ℤ, pos, negsuc, ◌+◌, ◌*◌, ◌/◌, ◌%◌, ◌||◌, ◌==◌, min, Bool, true, false, if◌then◌else◌, List, [], ◌∷◌, Option, Some, None, is_some, Result, Ok, Err, length}
+-- The statements of a source's lines. Each goes to the section that the last `.text` or `.data` before it names, after what is
+-- there, and a label stands where its line begins.
+use Rattle.std.specs.Prelude.{ℕ, ℤ, pos, negsuc, ◌+◌, ◌*◌, ◌/◌, ◌%◌, ◌||◌, ◌==◌, min, Bool, true, false, if◌then◌else◌, List, [], ◌∷◌, ◌++◌, Option, Some, None, is_some, Result, Ok, Err, length}
 use Rattle.std.specs.FinMap.{get, insert, empty}
 use Rattle.asm_text.specs.declared.token.Token.{Token}
 use Rattle.asm_text.specs.declared.token.TokenKind.{TokenKind}
@@ -19,6 +19,7 @@ use Rattle.asm_statements.specs.declared.statement.Label.{Label}
 use Rattle.asm_statements.specs.declared.statement.Statement.{Statement}
 use Rattle.asm_statements.specs.declared.statement.Statement.TheVariants as statement
 use Rattle.assembler.specs.declared.layout.Position.{Position}
+use Rattle.assembler.specs.declared.layout.Piece.{Piece}
 use Rattle.assembler.specs.declared.layout.Layout.{Layout}
 
 -- a length, up to 2^32 - 1: a section of that length is too large in any case
@@ -29,8 +30,17 @@ counted n = min n 4294967295
 abbrev pub start : Position
 start = record { in_data = false; words = 0; bytes = 0 }
 
-abbrev pub start_layout : Layout
-start_layout = record { position = start; labels = empty }
+-- What is there so far: where the next statement goes, where the labels stand, and the statements with their lines and places.
+pub record Laid : Type 0 where
+  pub position : Position
+  pub labels : SpotsByName
+  pub pieces : List Piece
+
+abbrev pub start_layout : Laid
+start_layout = record { position = start; labels = empty; pieces = [] }
+
+abbrev pub laid : Layout → Laid
+laid l = record { position = l.position; labels = l.labels; pieces = l.pieces.items }
 
 -- where a label stands: how many words of text or bytes of data come before it
 abbrev pub spot_of : Position → Spot
@@ -111,16 +121,24 @@ abbrev pub labelled : List ℕ → Line → Option Label → Position → SpotsB
 labelled source line None p labels = Ok labels
 labelled source line (Some label) p labels = label_declared source line label p labels
 
--- the layout after a line: first its label, then its statement
-abbrev pub placed : List ℕ → Line → Layout → Result Layout AsmFault
-placed source line l =
+-- a line's statement at a position, and the labels with that of the line, which comes first
+abbrev pub parsed : List ℕ → Line → Position → SpotsByName → Result (Statement × SpotsByName) AsmFault
+parsed source line p labels =
     and_then (at_line source line Syntax (label_read source line.tokens)) (λ r.
-    and_then (labelled source line r.0 l.position l.labels) (λ labels.
-    and_then (at_line source line Syntax (statement_read source l.position.in_data line.end r.1)) (λ s.
-    and_then (space_checked source line l.position.in_data s) (λ _.
-    Ok (record { position = after l.position s line.tokens; labels = labels })))))
+    and_then (labelled source line r.0 p labels) (λ known.
+    and_then (at_line source line Syntax (statement_read source p.in_data line.end r.1)) (λ s.
+    and_then (space_checked source line p.in_data s) (λ _.
+    Ok (s, known)))))
 
--- the layout after all lines, or the first fault
-abbrev pub all_placed : List ℕ → List Line → Layout → Result Layout AsmFault
+-- what is there with a line's statement, and the labels
+abbrev pub with_piece : Laid → Line → Statement × SpotsByName → Laid
+with_piece l line r = record {
+  position = after l.position r.0 line.tokens;
+  labels = r.1;
+  pieces = l.pieces ++ (record { line = line; position = l.position; statement = r.0 }) ∷ [];
+}
+
+-- what is there after all lines, or the first fault
+abbrev pub all_placed : List ℕ → List Line → Laid → Result Laid AsmFault
 all_placed source [] l = Ok l
-all_placed source (line ∷ lines) l = and_then (placed source line l) (λ m. all_placed source lines m)
+all_placed source (line ∷ lines) l = and_then (parsed source line l.position l.labels) (λ r. all_placed source lines (with_piece l line r))

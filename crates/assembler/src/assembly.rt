@@ -3,6 +3,7 @@ ghost use Rattle.std.specs.Prelude.{◌≡◌, ◌≢◌, ◌∷◌, ◌≤◌, 
 ghost use Rattle.machine_model.specs.Images.{bytes_of_words};
 ghost use Rattle.assembler.specs.Faults.{out_of_memory};
 ghost use Rattle.assembler.specs.Assembly.{pages, data_base, IsTextAddress, start_at, entry_of, words_of, image_of, text_segment, data_segment, data_segments, assembly, Assembles, FaultOf};
+ghost use Rattle.assembler.specs.Layout.{laid};
 ghost use Rattle.assembler.specs.Filling.{shown};
 ghost use Rattle.assembler.specs.Listed.{IsListedIn};
 ghost use Rattle.assembler.specs.Instructions.{ListsInstructions};
@@ -46,33 +47,30 @@ pub fn assemble(alloc: Global, source: &str) -> Result<(Image, Listing), AsmFaul
     }
     let lines = lines(alloc, source)?;
     one_reading();
-    assemble_lines(alloc, source.as_bytes(), lines.as_slice())
+    assemble_lines(alloc, source.as_bytes(), lines)
 }
 
 fn assemble_lines(
     alloc: Global,
     source: &[u8],
-    lines: &[Line],
+    lines: Vec<Line>,
 ) -> Result<(Image, Listing), AsmFault>
-    ensures ok { IfOk result (λ r. assembly source.now lines.now ≡ Ok (record { image = r.0; listing = r.1 })) }
-    ensures err { IfErr result (λ f. f ≢ out_of_memory → assembly source.now lines.now ≡ Err f) }
+    ensures ok { IfOk result (λ r. assembly source.now lines.items ≡ Ok (record { image = r.0; listing = r.1 })) }
+    ensures err { IfErr result (λ f. f ≢ out_of_memory → assembly source.now lines.items ≡ Err f) }
 {
     let layout = lay_out(alloc, source, lines)?;
     let entry = entry(&layout)?;
-    let output = fill(
-        alloc,
-        source,
-        &layout.labels,
-        data_base(layout.position.words),
-        lines,
-    )?;
-    let listing = list_cells(alloc, output.cells.as_slice())?;
+    let base = data_base(layout.position.words);
+    let pieces = layout.pieces.as_slice();
+    let output = fill(alloc, source, &layout.labels, base, pieces)?;
+    let cells = output.cells.as_slice();
+    let listing = list_cells(alloc, cells)?;
     let image = image(alloc, entry, output)?;
     Ok((image, listing))
 }
 
 fn entry<'a>(layout: &Layout<'a>) -> Result<u32, AsmFault>
-    ensures value { result ≡ entry_of layout.now }
+    ensures value { result ≡ entry_of (laid layout.now) }
     ensures fits { OnOk result (pages (4 * layout.now.position.words) + pages layout.now.position.bytes ≤ 60) }
     ensures inside { IfOk result (λ at. IsTextAddress layout.now.position.words at) }
 {

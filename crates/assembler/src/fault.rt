@@ -16,8 +16,8 @@ pub enum Cause {
     UnknownName = 2,
     /// A label has the name of one further up.
     DoubleLabel = 3,
-    /// A number does not fit where it stands. The first pass over the source finds a `.space` whose size is negative, or in text is
-    /// no multiple of 4. The second pass is made where the first finds no fault. It finds:
+    /// A number does not fit where it stands. With the forms of the lines it is found of a `.space` whose size is negative, or in text
+    /// is no multiple of 4. Where these have no fault it is found, with the labels' addresses, of:
     ///
     /// - a byte outside -128 to 255, or upper bits outside 0 to 0xFFFFF;
     /// - an immediate, or the offset of a load or a store, outside -2048 to 2047;

@@ -1,15 +1,15 @@
-//! The second pass: the words of text and the bytes of data.
+//! Statements to the words of text and the bytes of data.
 ghost use Rattle.std.specs.Prelude.{◌≡◌, ◌≢◌, [], ◌∷◌, ◌≤ℤ◌, ◌+ℤ◌, ◌-ℤ◌, pos, Ok, Err, IfOk, IfErr, OnOk};
 ghost use Rattle.assembler.specs.Faults.{out_of_memory};
 ghost use Rattle.assembler.specs.Layout.{numbers_in, string_in, spot_of};
-ghost use Rattle.assembler.specs.Filling.{shown, address_of, distance_of, byte_of, added, joined, in_bytes, in_words, in_zeros, words_of_numbers, words_of_expansion, instruction_of, instruction_held, bytes_held, held, filled, contents_filled};
+ghost use Rattle.assembler.specs.Filling.{shown, address_of, distance_of, byte_of, added, joined, in_bytes, in_words, in_zeros, words_of_numbers, words_of_expansion, instruction_of, instruction_held, bytes_held, held, all_held};
 
 use crate::fault::{AsmFault, Cause, fault_at};
 use crate::labels::{Labels, Spot};
-use crate::layout::{Position, space_bytes, string_in};
+use crate::layout::{Piece, Position, space_bytes, string_in};
 use asm_statements::{
     Expansion, Literal, Mnemonic, Operands, Statement, Value, expanded, modulo_word, number_of,
-    read_statement, split_label, text_at, word,
+    text_at, word,
 };
 use asm_text::{Line, Token};
 use std::alloc::Global;
@@ -49,57 +49,35 @@ impl Drop for Output {
     }
 }
 
-/// Goes over all lines again, with data at its base. A fault is the first of them: a label that is not there, or a number that does
-/// not fit. After a first pass without a fault no `Syntax` comes: that pass read each line at the same position.
+/// What statements come to, one after the other, with data at its base. A fault is the first of them: a label that is not there, or a
+/// number that does not fit.
 pub fn fill<'a>(
     alloc: Global,
     source: &'a [u8],
     labels: &Labels<'a>,
     data_base: u32,
-    lines: &[Line],
+    pieces: &[Piece],
 ) -> Result<Output, AsmFault>
-    ensures ok { IfOk result (λ o. contents_filled (record { source = source.now; labels = labels.now; data_base = data_base }) lines.now ≡ Ok (shown o)) }
+    ensures ok { IfOk result (λ o. all_held (record { source = source.now; labels = labels.now; data_base = data_base }) pieces.now ≡ Ok (shown o)) }
     ensures err { IfErr result (λ f. f ≢ out_of_memory
-        → contents_filled (record { source = source.now; labels = labels.now; data_base = data_base }) lines.now ≡ Err f) }
+        → all_held (record { source = source.now; labels = labels.now; data_base = data_base }) pieces.now ≡ Err f) }
 {
-    let mut position = Position::start();
     let mut output = Output {
         cells: Vec::new(alloc),
         bytes: Vec::new(alloc),
     };
-    for line in lines {
-        position = fill_line(source, labels, data_base, line, position, &mut output)?;
+    for piece in pieces {
+        fill_statement(
+            source,
+            labels,
+            data_base,
+            &piece.line,
+            piece.position,
+            &piece.statement,
+            &mut output,
+        )?;
     }
     Ok(output)
-}
-
-/// Goes over a line. Gives the position after it.
-fn fill_line<'a>(
-    source: &'a [u8],
-    labels: &Labels<'a>,
-    data_base: u32,
-    line: &Line,
-    position: Position,
-    output: &mut Output,
-) -> Result<Position, AsmFault>
-    ensures ok { IfOk result (λ p. filled (record { source = source.now; labels = labels.now; data_base = data_base }) line.now
-        (record { position = position; contents = shown output.old }) ≡ Ok (record { position = p; contents = shown output.new })) }
-    ensures err { IfErr result (λ f. f ≢ out_of_memory → filled (record { source = source.now; labels = labels.now; data_base = data_base }) line.now
-        (record { position = position; contents = shown output.old }) ≡ Err f) }
-{
-    let tokens = line.tokens.as_slice();
-    let (_, rest) = match split_label(source, tokens) {
-        Ok(split) => split,
-        Err(at) => return Err(fault_at(source, line, Cause::Syntax, at)),
-    };
-    let statement = match read_statement(source, position.in_data, line.end, rest) {
-        Ok(statement) => statement,
-        Err(at) => return Err(fault_at(source, line, Cause::Syntax, at)),
-    };
-    fill_statement(
-        source, labels, data_base, line, position, &statement, output,
-    )?;
-    Ok(position.after(&statement, tokens))
 }
 
 /// Adds what a line's statement at a position holds.

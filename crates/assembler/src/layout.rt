@@ -1,7 +1,7 @@
-//! The first pass: where the labels stand, and how long the sections are.
+//! Lines to statements, each with its place, and where the labels stand.
 ghost use Rattle.std.specs.Prelude.{◌≡◌, ◌≢◌, Ok, Err, IfOk, IfErr, OnOk, length};
 ghost use Rattle.assembler.specs.Faults.{out_of_memory};
-ghost use Rattle.assembler.specs.Layout.{start, start_layout, spot_of, counted, with_words, with_bytes, advanced, within, after, space_units, string_in, numbers_in, space_checked, label_declared, units_of, placed, all_placed, space_bytes};
+ghost use Rattle.assembler.specs.Layout.{start, start_layout, spot_of, counted, with_words, with_bytes, advanced, within, after, space_units, string_in, numbers_in, space_checked, label_declared, units_of, parsed, all_placed, laid, space_bytes};
 
 use crate::fault::{AsmFault, Cause, fault_at};
 use crate::labels::{Labels, Spot};
@@ -102,10 +102,28 @@ impl Position {
     }
 }
 
-/// What the first pass finds.
+/// A line, its statement, and where this stands.
+pub struct Piece {
+    pub line: Line,
+    pub position: Position,
+    pub statement: Statement,
+}
+
+impl Drop for Piece {
+    fn drop(self) {
+        let Piece {
+            line: _line,
+            position: _,
+            statement: _,
+        } = self;
+    }
+}
+
+/// The statements of a source in order, its labels, and how long its sections are.
 pub struct Layout<'a> {
     pub position: Position,
     pub labels: Labels<'a>,
+    pub pieces: Vec<Piece>,
 }
 
 impl<'a> Drop for Layout<'a> {
@@ -113,38 +131,52 @@ impl<'a> Drop for Layout<'a> {
         let Layout {
             position: _,
             labels: _labels,
+            pieces: _pieces,
         } = self;
     }
 }
 
-/// Goes over all lines. A fault is the first of them: a statement of a wrong form, a label that was there already, or a `.space`
-/// that no section can hold.
-pub fn lay_out<'a>(alloc: Global, source: &'a [u8], lines: &[Line]) -> Result<Layout<'a>, AsmFault>
-    ensures ok { IfOk result (λ l. all_placed source.now lines.now start_layout ≡ Ok l) }
-    ensures err { IfErr result (λ f. f ≢ out_of_memory → all_placed source.now lines.now start_layout ≡ Err f) }
+/// The statements of all lines. A fault is the first of them: a statement of a wrong form, a label that was there already, or a
+/// `.space` that no section can hold.
+pub fn lay_out<'a>(
+    alloc: Global,
+    source: &'a [u8],
+    lines: Vec<Line>,
+) -> Result<Layout<'a>, AsmFault>
+    ensures ok { IfOk result (λ l. all_placed source.now lines.items start_layout ≡ Ok (laid l)) }
+    ensures err { IfErr result (λ f. f ≢ out_of_memory → all_placed source.now lines.items start_layout ≡ Err f) }
 {
     let mut position = Position::start();
     let mut labels = Labels::new(alloc);
+    let mut pieces = Vec::with_capacity(alloc, lines.len())?;
     for line in lines {
-        position = place(source, line, position, &mut labels)?;
+        let statement = parse(source, &line, position, &mut labels)?;
+        let next = position.after(&statement, line.tokens.as_slice());
+        pieces.push(Piece {
+            line,
+            position,
+            statement,
+        })?;
+        position = next;
     }
-    Ok(Layout { position, labels })
+    Ok(Layout {
+        position,
+        labels,
+        pieces,
+    })
 }
 
-/// Goes over a line. Gives the position after it.
-fn place<'a>(
+/// Takes the label of a line at a position. Gives the line's statement.
+fn parse<'a>(
     source: &'a [u8],
     line: &Line,
     position: Position,
     labels: &mut Labels<'a>,
-) -> Result<Position, AsmFault>
-    ensures ok { IfOk result (λ p. placed source.now line.now (record { position = position; labels = labels.old })
-        ≡ Ok (record { position = p; labels = labels.new })) }
-    ensures err { IfErr result (λ f. f ≢ out_of_memory
-        → placed source.now line.now (record { position = position; labels = labels.old }) ≡ Err f) }
+) -> Result<Statement, AsmFault>
+    ensures ok { IfOk result (λ s. parsed source.now line.now position labels.old ≡ Ok (s, labels.new)) }
+    ensures err { IfErr result (λ f. f ≢ out_of_memory → parsed source.now line.now position labels.old ≡ Err f) }
 {
-    let tokens = line.tokens.as_slice();
-    let (label, rest) = match split_label(source, tokens) {
+    let (label, rest) = match split_label(source, line.tokens.as_slice()) {
         Ok(split) => split,
         Err(at) => return Err(fault_at(source, line, Cause::Syntax, at)),
     };
@@ -156,7 +188,7 @@ fn place<'a>(
         Err(at) => return Err(fault_at(source, line, Cause::Syntax, at)),
     };
     check_space(source, line, position.in_data, &statement)?;
-    Ok(position.after(&statement, tokens))
+    Ok(statement)
 }
 
 fn declare<'a>(

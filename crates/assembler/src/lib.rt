@@ -1,5 +1,6 @@
-//! An assembler in two passes: a source to an image and a listing. Read `assemble` first: its comment has the order of faults. The
-//! laws join its definitions to the instruction table, and say that what it assembles may be loaded.
+//! An assembler: a source's lines to statements, each with its place, and these to an image and a listing. Read `assemble` first: its
+//! comment has the order of faults. The laws join its definitions to the instruction table, and say that what it assembles may be
+//! loaded.
 #![tactic(auto)]
 
 mod assembly;

@@ -6,10 +6,10 @@ use Rattle.assembler.proofs.assembly.assemble.Goals as goal
 
 pub returns-clause-refused : goal.returns-clause-refused
 returns-clause-refused c =
-    IfErr-weaker c.assemble_lines.result _ _ (λ f given differs. line-fault c.args.source.now c.as_bytes.result.now c.in_ok-lines.lines.items c.as_slice.result.now f (search rules) (search rules) (omega arith) c.in_ok-lines.ensures.exact given differs) c.assemble_lines.ensures.err
+    IfErr-weaker c.assemble_lines.result _ _ (λ f given differs. line-fault c.args.source.now c.as_bytes.result.now c.in_ok-lines.lines.items f (search rules) (omega arith) c.in_ok-lines.ensures.exact given differs) c.assemble_lines.ensures.err
 
 pub returns-clause-listed : goal.returns-clause-listed
-returns-clause-listed c = IfOk-weaker c.assemble_lines.result _ _ (λ r made. listed-made c.as_bytes.result.now c.as_slice.result.now r.0 r.1 made) c.assemble_lines.ensures.ok
+returns-clause-listed c = IfOk-weaker c.assemble_lines.result _ _ (λ r made. listed-made c.as_bytes.result.now c.in_ok-lines.lines.items r.0 r.1 made) c.assemble_lines.ensures.ok
 
 pub returns-clause-meant : goal.returns-clause-meant
-returns-clause-meant c = IfOk-weaker c.assemble_lines.result _ _ (λ r made. lists-instructions c.args.source.now c.as_bytes.result.now c.in_ok-lines.lines.items c.as_slice.result.now r.0 r.1 (search rules) (search rules) c.in_ok-lines.ensures.exact c.one_reading.ensures.lines made) c.assemble_lines.ensures.ok
+returns-clause-meant c = IfOk-weaker c.assemble_lines.result _ _ (λ r made. lists-instructions c.args.source.now c.as_bytes.result.now c.in_ok-lines.lines.items r.0 r.1 (search rules) c.in_ok-lines.ensures.exact c.one_reading.ensures.lines made) c.assemble_lines.ensures.ok

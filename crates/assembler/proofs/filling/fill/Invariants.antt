@@ -1,8 +1,8 @@
 use Rattle.std.proofs.Common.{◌≡◌, drop}
-use Rattle.assembler.specs.Filling.{all_filled, start_filling, shown}
+use Rattle.assembler.specs.Filling.{all_held, added, shown}
 use Rattle.assembler.proofs.filling.fill.Given as goal
 
-abbrev pub invariant-loop-line : goal.invariant-loop-line
-invariant-loop-line l =
-    all_filled (record { source = l.source; labels = l.labels; data_base = l.data_base }) (drop l.line-index l.lines) (record { position = l.position; contents = shown l.output })
-    ≡ all_filled (record { source = l.source; labels = l.labels; data_base = l.data_base }) l.lines start_filling
+abbrev pub invariant-loop-piece : goal.invariant-loop-piece
+invariant-loop-piece l =
+    added (shown l.output) (all_held (record { source = l.source; labels = l.labels; data_base = l.data_base }) (drop l.piece-index l.pieces))
+    ≡ all_held (record { source = l.source; labels = l.labels; data_base = l.data_base }) l.pieces
