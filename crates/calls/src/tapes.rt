@@ -1,5 +1,5 @@
 //! The tapes that processes read.
-ghost use Rattle.std.specs.Prelude.{◌≡◌, take, drop, slice_get, option_map};
+ghost use Rattle.std.specs.Prelude.{◌≡◌, IfOk, take, drop, slice_get, option_map};
 ghost use Rattle.kernel_model.specs.State.{read_by};
 ghost use Rattle.kernel_model.specs.World.{tapes_of, tape_count};
 ghost use Rattle.calls.specs.Plans.{AreLeft};
@@ -8,6 +8,7 @@ ghost use Rattle.calls.specs.Places.{bytes_of};
 use byte_list::Bytes;
 use files::part_of;
 use kernel_model::{TAPES, TapeRead};
+use std::alloc::AllocError;
 use std::marker::Model;
 use std::sync::Arc;
 
@@ -59,6 +60,16 @@ impl TapeTable {
             tapes,
             places: [0; TAPES],
         }
+    }
+
+    /// The same tapes, as far as they are read, with the same bytes shared. It takes no block of memory.
+    pub fn try_clone(&self) -> Result<TapeTable, AllocError>
+        ensures { IfOk result (λ copy. copy ≡ self.now) }
+    {
+        Ok(TapeTable {
+            tapes: Arc::try_clone(&self.tapes)?,
+            places: self.places,
+        })
     }
 
     /// At most n bytes of a tape, from its place on: fewer where the tape ends before. None where there is no such tape.

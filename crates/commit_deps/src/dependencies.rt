@@ -15,7 +15,7 @@ use std::marker::Model;
 pub struct Dependencies {
     /// The carriers in the order in which they were first written, each with its mark.
     marks: Vec<(Carrier, Mark)>,
-    /// Where the process stands there that was noted last. An event reads and writes its process, so this one is looked for most.
+    /// Where the process stands there that was noted again last. An event reads and writes its process, so this one is looked for most.
     recent: usize,
     /// Where each of them stands there.
     places: HashMap<Carrier, usize>,
@@ -55,7 +55,7 @@ fn own_mark(change: Option<u64>) -> Mark
     }
 }
 
-/// Where the process stands that was noted last, once a carrier that stands at a place is noted.
+/// Where the process stands that was noted again last, once a carrier that stands at a place is noted again.
 fn more_recent(carrier: Carrier, place: usize, recent: usize) -> usize {
     match carrier {
         Carrier::Proc(_) => place,
@@ -209,5 +209,16 @@ impl Dependencies {
         self.reserve(unwritten)?;
         self.note(writes, mark);
         Ok(mark)
+    }
+
+    /// The same marks, in memory of their own. Refused for want of memory alone.
+    pub fn try_clone(&self, alloc: Global) -> Result<Dependencies, AllocError>
+        ensures { IfOk result (λ copy. copy.marks ≡ self.now.marks) }
+    {
+        Ok(Dependencies {
+            marks: self.marks.to_vec(alloc)?,
+            recent: self.recent,
+            places: self.places.clone()?,
+        })
     }
 }

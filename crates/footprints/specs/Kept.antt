@@ -57,7 +57,7 @@ pub record IsNamed (before after : List Entry) (name : ℕ) (noted : Entry) : Ty
   pub there : name < length after
   pub is : get_or after name no_footprint ≡ noted
 
--- The ends are within so many carriers, each name is that of one of them, and all of them have names.
+-- The ends are within so many carriers, each name is the place of one of them, and they are at most 2^32, so that a name is a u32.
 pub record AreKept (many : ℕ) (ends : List Ends) (names : List ℕ) : Type 0 where
   pub within : AreWithin many ends
   pub named : AllByRecursion (λ name. name < length ends) names

@@ -13,7 +13,7 @@ use std::marker::Model;
 
 /// So many of the footprints that came last are looked at before one more is kept.
 const LOOKED_AT: usize = 16;
-/// There are names for so many footprints.
+/// So many footprints are kept at most: a name is a u32.
 const NAMES: usize = 1 << 32;
 
 /// Where the carriers of a footprint stand: from a place on those that an Enter reads beside its process, and after them those that it
@@ -210,8 +210,8 @@ impl Footprints {
         }
     }
 
-    /// Makes room for so many Enters more, with so many carriers. It is refused too where there would be more than 2^32 footprints. Those
-    /// that are kept stay, whether it succeeds or not.
+    /// Makes room for so many Enters more, with so many carriers. It is refused too where there would be more than 2^32 footprints if each of
+    /// these Enters had one of its own. Those that are kept stay, whether it succeeds or not.
     pub fn reserve(&mut self, enters: usize, carriers: usize) -> Result<(), AllocError>
         ensures enters { OnOk result (enters ≤ self.new.enter_room) }
         ensures carriers { OnOk result (carriers ≤ self.new.carrier_room) }
@@ -319,5 +319,16 @@ impl Footprints {
         }
         numbers.reverse();
         Ok(numbers)
+    }
+
+    /// The same footprints, in memory of their own. Refused for want of memory alone.
+    pub fn try_clone(&self, alloc: Global) -> Result<Footprints, AllocError>
+        ensures { IfOk result (λ copy. copy.footprints ≡ self.now.footprints) }
+    {
+        Ok(Footprints {
+            carriers: self.carriers.to_vec(alloc)?,
+            ends: self.ends.to_vec(alloc)?,
+            names: self.names.to_vec(alloc)?,
+        })
     }
 }

@@ -133,6 +133,7 @@ impl Marks {
         next(self.len, rest(&self.runs, self.passed))
     }
 
+    /// How many changes are committed, as `advance` said last; 0 before.
     pub fn committed(&self) -> u64
         ensures { result ≡ self.now.committed }
     {

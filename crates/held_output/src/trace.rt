@@ -120,6 +120,17 @@ impl Trace {
         self.replies.advance(committed);
     }
 
+    /// The same trace, in memory of its own. Refused for want of memory alone.
+    pub fn try_clone(&self, alloc: Global) -> Result<Trace, AllocError>
+        ensures items { IfOk result (λ copy. copy.items ≡ self.now.items) }
+        ensures committed { IfOk result (λ copy. copy.committed ≡ self.now.committed) }
+    {
+        Ok(Trace {
+            replies: copy_of(alloc, &self.replies)?,
+            ending: self.ending,
+        })
+    }
+
     /// The trace of a process that a fork of this one makes, before it is told anything: the same items, and room for one more.
     pub fn forked(&self, alloc: Global) -> Result<Trace, AllocError>
         requires running { end_in (whats self.now.items) ≡ None }

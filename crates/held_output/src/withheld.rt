@@ -1,5 +1,5 @@
 //! Items that are held back until they may be seen.
-ghost use Rattle.std.specs.Prelude.{◌≡◌, ◌≤◌, ◌++◌, ◌∷◌, [], OnOk, length};
+ghost use Rattle.std.specs.Prelude.{◌≡◌, ◌≤◌, ◌++◌, ◌∷◌, [], OnOk, IfOk, length};
 ghost use Rattle.held_output.specs.Withheld.{released, holds_back, whats, all_held, nothing, IsSame};
 
 use crate::marks::Marks;
@@ -98,8 +98,8 @@ impl<T> Withheld<T> {
         self.marks.append(mark, 1);
     }
 
-    /// Says how many changes are committed now: what rests on these alone is released. Looks at the items that were held back
-    /// alone, unless the number fell. Takes no memory.
+    /// Says how many changes are committed now: what rests on these alone is released. Looks at the runs of equal marks that
+    /// were held back alone, unless the number fell. Takes no memory.
     pub fn advance(&mut self, committed: u64)
         ensures items { self.new.items ≡ self.old.items }
         ensures committed { self.new.committed ≡ committed }
@@ -119,5 +119,18 @@ impl<T: Copy> Withheld<T> {
             self.items.extend_from_slice(items).unwrap();
             self.marks.append(mark, items.len());
         }
+    }
+
+    /// The same items with their marks, in memory of their own. Refused for want of memory alone.
+    pub fn try_clone(&self, alloc: Global) -> Result<Withheld<T>, AllocError>
+        ensures items { IfOk result (λ copy. copy.items ≡ self.now.items) }
+        ensures committed { IfOk result (λ copy. copy.committed ≡ self.now.committed) }
+    {
+        let mut items = Vec::new(alloc);
+        items.extend_from_slice(&self.items)?;
+        Ok(Withheld {
+            items,
+            marks: self.marks.try_clone(alloc)?,
+        })
     }
 }

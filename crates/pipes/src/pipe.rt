@@ -95,6 +95,21 @@ impl Pipe {
         Ok(Bytes::new(bytes))
     }
 
+    /// The same pipe, in memory of its own: it takes 4,096 bytes, as a new one does.
+    pub(crate) fn try_clone(&self, alloc: Global) -> Result<Pipe, AllocError>
+        ensures { IfOk result (λ copy. copy ≡ self.now) }
+    {
+        // Called for its clause: at most 4,096.
+        let _held = self.held();
+        let mut copy = Pipe::new(alloc)?;
+        let (first, second) = self.ring.as_slices();
+        copy.put(first);
+        copy.put(second);
+        copy.readers = self.readers;
+        copy.writers = self.writers;
+        Ok(copy)
+    }
+
     /// Writes these bytes after those that the pipe holds.
     pub(crate) fn put(&mut self, bytes: &[u8])
         requires { length self.old.held + length bytes.now ≤ pipe_size }

@@ -49,6 +49,17 @@ impl PipeTable {
         Ok(PipeTable { alloc, pipes })
     }
 
+    /// The same pipes, in memory of their own, with room for a table of 1,024. Refused for want of memory alone.
+    pub fn try_clone(&self, alloc: Global) -> Result<PipeTable, AllocError>
+        ensures { IfOk result (λ copy. copy ≡ self.now) }
+    {
+        let mut copy = PipeTable::new(alloc)?;
+        for pipe in &self.pipes {
+            copy.push(pipe.try_clone(alloc)?);
+        }
+        Ok(copy)
+    }
+
     /// How many pipes there ever were, and the number of the next.
     pub fn len(&self) -> usize
         ensures len { result ≡ length self.now }

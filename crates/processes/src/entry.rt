@@ -1,5 +1,5 @@
 //! One process of the table.
-ghost use Rattle.std.specs.Prelude.{◌≡◌, ◌<◌, ◌≤◌, ◌∷◌, [], List, Option, OnOk, OnErr, length};
+ghost use Rattle.std.specs.Prelude.{◌≡◌, ◌<◌, ◌≤◌, ◌∷◌, [], List, Option, IfOk, OnOk, OnErr, length};
 ghost use Rattle.processes.specs.Parts.{boot_part, child_part, ended_part, with_child, with_slots, without_child};
 
 use crate::descriptors::Descriptors;
@@ -121,5 +121,16 @@ impl ProcEntry {
             children: Vec::new(alloc),
             status: None,
         }
+    }
+
+    /// The same, in memory of its own.
+    pub fn try_clone(&self, alloc: Global) -> Result<ProcEntry, AllocError>
+        ensures { IfOk result (λ copy. copy.part ≡ self.now.part) }
+    {
+        Ok(ProcEntry {
+            descriptors: self.descriptors.duplicate(),
+            children: self.children.to_vec(alloc)?,
+            status: self.status,
+        })
     }
 }

@@ -1,5 +1,5 @@
 //! The table of all processes.
-ghost use Rattle.std.specs.Prelude.{◌≡◌, ◌+◌, ◌<◌, ◌≤◌, ◌++◌, ◌∷◌, [], List, length, map, OnOk, OnErr, IfSome, Some, None};
+ghost use Rattle.std.specs.Prelude.{◌≡◌, ◌+◌, ◌<◌, ◌≤◌, ◌++◌, ◌∷◌, [], List, length, map, IfOk, OnOk, OnErr, IfSome, Some, None};
 ghost use Rattle.std.specs.Option.{option_copied, option_map};
 ghost use Rattle.machine_model.specs.declared.reply.Reply.{Reply};
 ghost use Rattle.kernel_model.specs.Rows.{CallEffect, descriptor_at, first_ended, most_processes, row_fork, status_in};
@@ -68,6 +68,17 @@ impl ProcTable {
             alloc,
             entries: Vec::new(alloc),
         }
+    }
+
+    /// The same processes, in memory of their own. Refused for want of memory alone.
+    pub fn try_clone(&self, alloc: Global) -> Result<ProcTable, AllocError>
+        ensures { IfOk result (λ copy. copy.parts ≡ self.now.parts) }
+    {
+        let mut entries = Vec::with_capacity(alloc, self.entries.len())?;
+        for entry in &self.entries {
+            entries.push(entry.try_clone(alloc)?)?;
+        }
+        Ok(ProcTable { alloc, entries })
     }
 
     /// How many processes there ever were; one that has ended keeps its entry.

@@ -1,3 +1,4 @@
 -- The definitions.
 pub mod Room
+pub mod Shared
 pub mod Refusals

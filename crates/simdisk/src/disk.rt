@@ -5,8 +5,9 @@ ghost use Rattle.disk_model.specs.Runs.{quiet};
 ghost use Rattle.simdisk.specs.Room.{has_room, crashed, AreSpaced};
 ghost use Rattle.simdisk.specs.declared.refusal.DiskRefusal.TheVariants.{NoSuchWrite, OutOfRange, OutOfMemory, BadLength};
 
-use crate::ranges::{are_apart, least_start_of, leave_crashed, overwrite, place_of, take_out};
+use crate::ranges::{are_apart, least_start_of, leave_crashed, place_of, take_out};
 use crate::refusal::DiskRefusal;
+use crate::shared_bytes::SharedBytes;
 use byte_list::Bytes;
 use disk_model::Piece;
 use std::alloc::{AllocError, Global};
@@ -22,10 +23,10 @@ const LONGEST_WRITE: usize = 4096;
 /// failed write leaves any bytes in its range, and no later write of the run may meet that range. Completions come in any order,
 /// each named by the place at which its write begins.
 pub struct SimDisk {
-    alloc: Global,
-    bytes: Vec<u8>,
-    in_flight: Vec<Piece>,
-    failed: Vec<Piece>,
+    pub(crate) alloc: Global,
+    pub(crate) bytes: SharedBytes,
+    pub(crate) in_flight: Vec<Piece>,
+    pub(crate) failed: Vec<Piece>,
 }
 
 impl Drop for SimDisk {
@@ -46,9 +47,9 @@ impl Model for SimDisk {
 
     ghost Value = { Device };
 
-    ghost view = { λ s. record { disk = s.bytes.items; in_flight = s.in_flight.items; failed = s.failed.items } };
+    ghost view = { λ s. record { disk = s.bytes; in_flight = s.in_flight.items; failed = s.failed.items } };
 
-    ghost invariant = { λ s. (length s.bytes.items ≡ 2097152) × LieOn 2097152 s.in_flight.items × LieOn 2097152 s.failed.items };
+    ghost invariant = { λ s. (length s.bytes ≡ 2097152) × LieOn 2097152 s.in_flight.items × LieOn 2097152 s.failed.items };
 }
 
 fn zeros(alloc: Global, n: usize) -> Result<Vec<u8>, AllocError>
@@ -69,7 +70,7 @@ impl SimDisk {
         let bytes = zeros(alloc, SIZE)?;
         Ok(SimDisk {
             alloc,
-            bytes,
+            bytes: SharedBytes::new(bytes),
             in_flight: Vec::new(alloc),
             failed: Vec::new(alloc),
         })
@@ -87,7 +88,7 @@ impl SimDisk {
         let bytes = Vec::from_slice(alloc, bytes)?;
         Ok(SimDisk {
             alloc,
-            bytes,
+            bytes: SharedBytes::new(bytes),
             in_flight: Vec::new(alloc),
             failed: Vec::new(alloc),
         })
@@ -112,7 +113,7 @@ impl SimDisk {
         ensures bytes { result.now ≡ self.now.disk }
         ensures size { length result.now ≡ 2097152 }
     {
-        &self.bytes
+        self.bytes.as_slice()
     }
 
     /// The least place at which a write in flight begins, in bytes from the disk's start.
@@ -180,7 +181,8 @@ impl SimDisk {
         match take_out(&mut self.in_flight, at) {
             None => Err(DiskRefusal::NoSuchWrite),
             Some(piece) => {
-                overwrite(&mut self.bytes, piece.at as usize, piece.bytes.as_slice());
+                self.bytes
+                    .overwrite(piece.at as usize, piece.bytes.as_slice());
                 Ok(())
             }
         }
@@ -211,7 +213,8 @@ impl SimDisk {
     pub fn crash(mut self, fill: &[u8]) -> SimDisk
         ensures { result ≡ quiet (crashed self fill.now) }
     {
-        leave_crashed(&mut self.bytes, &self.in_flight, &self.failed, fill);
+        self.bytes
+            .leave_crashed(&self.in_flight, &self.failed, fill);
         self.in_flight = Vec::new(self.alloc);
         self.failed = Vec::new(self.alloc);
         self
@@ -221,11 +224,11 @@ impl SimDisk {
     pub fn after_crash(&self, fill: &[u8]) -> Result<SimDisk, AllocError>
         ensures { IfOk result (λ d. d ≡ quiet (crashed self.now fill.now)) }
     {
-        let mut bytes = Vec::from_slice(self.alloc, &self.bytes)?;
+        let mut bytes = Vec::from_slice(self.alloc, self.bytes.as_slice())?;
         leave_crashed(&mut bytes, &self.in_flight, &self.failed, fill);
         Ok(SimDisk {
             alloc: self.alloc,
-            bytes,
+            bytes: SharedBytes::new(bytes),
             in_flight: Vec::new(self.alloc),
             failed: Vec::new(self.alloc),
         })

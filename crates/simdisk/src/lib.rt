@@ -3,11 +3,14 @@
 //! of bytes, and no other.
 #![tactic(auto)]
 
+mod copying;
 mod disk;
 mod laws;
 mod ranges;
 mod refusal;
+mod shared_bytes;
 
+pub use copying::copies_of;
 pub use disk::{SIZE, SimDisk};
 pub use laws::{crashes_are_fills, fills_are_crashes};
 pub use refusal::DiskRefusal;
