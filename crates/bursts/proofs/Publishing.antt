@@ -3,6 +3,7 @@ use Rattle.std.proofs.Common.{◌≡◌, ℕ, ◌≤◌, List, [], ◌∷◌, Op
 use Rattle.kernel_model.specs.Answers.{Kernel, now, committed, changes, with_event, with_events}
 use Rattle.kernel_model.specs.Loans.{LoanOut, LoanResult, Lends, returned, events_of, settled}
 use Rattle.kernel_model.specs.World.{World}
+use Rattle.kernel_step.specs.Loaned.{LendsAgain}
 use Rattle.kernel_model.specs.declared.answer.Refused.{Refused}
 use Rattle.kernel_model.specs.declared.event.Event.{Event}
 use Rattle.board.specs.declared.board.View.{View}
@@ -50,3 +51,12 @@ lend_keeps v books old new quantum result h shown here =
     same_run old new quantum (Ok (Some loan)) h = (ap now h.1.noted, ap history_totals h.1.noted)
     same_run old new quantum (Ok None) h = (ap now h.1.1, ap history_totals h.1.1)
     same_run old new quantum (Err why) h = (ap now h.2, ap history_totals h.2)
+
+-- nor does one that lends a process again
+pub again_keeps : (v : View) (books : Totals) (old new : Kernel) (pid quantum : ℕ) (given : Option LoanOut) → LendsAgain old pid quantum new given
+    → pair_of v ≡ (committed (now old), changes (now old)) → books ≡ history_totals old
+    → (pair_of v ≡ (committed (now new), changes (now new))) × (books ≡ history_totals new)
+again_keeps v books old new pid quantum None h shown here =
+    (shown ∙ sym (ap (λ (w : World). (committed w, changes w)) (ap now h)), here ∙ sym (ap history_totals h))
+again_keeps v books old new pid quantum (Some loan) h shown here =
+    (shown ∙ sym (ap (λ (w : World). (committed w, changes w)) (ap now h.1.noted)), here ∙ sym (ap history_totals h.1.noted))

@@ -51,8 +51,12 @@ abbrev pub with_shares : Sum → List Holding → Sum
 with_shares a hs = record { parts = a.parts + parts_in hs; totals = plus a.totals (sum_of hs) }
 
 -- a share grows by the loan that was given, and by nothing where none was
+abbrev pub GrowsByLoan : Holding → Holding → Option Loan → Type 0
+GrowsByLoan old new given = MatchOption given (new ≡ old) (λ l. new ≡ lent_to old (id_of_loan l ∷ []))
+
+-- the same of a lending that may be refused
 abbrev pub GrowsByLend : Holding → Holding → Result (Option Loan) Refused → Type 0
-GrowsByLend old new result = MatchResult result (λ given. MatchOption given (new ≡ old) (λ l. new ≡ lent_to old (id_of_loan l ∷ []))) (λ _. new ≡ old)
+GrowsByLend old new result = MatchResult result (GrowsByLoan old new) (λ _. new ≡ old)
 
 -- a share grows by what a result of process pid adds, and by nothing where it was not taken back
 abbrev pub GrowsBySettle : {E : Type 0} → ℕ → Holding → Holding → Result Answer E → Type 0

@@ -1,12 +1,16 @@
 //! `Bench`: the core that many workers share, with its log of loans, its board and its books.
-ghost use Rattle.std.specs.Prelude.{◌≡◌, ◌≤◌, ◌||◌, true, false, []};
+ghost use Rattle.std.specs.Prelude.{◌≡◌, ◌≤◌, ◌||◌, true, false, [], ◌∷◌, option_map, IfOk};
 ghost use Rattle.crossbeam_utils.specs.Seq.{cell_view};
-ghost use Rattle.kernel_model.specs.Answers.{now, committed as committed_in, changes as changes_in, Applies};
+ghost use Rattle.kernel_model.specs.Answers.{Kernel, now, committed as committed_in, changes as changes_in, Applies};
 ghost use Rattle.kernel_model.specs.Loans.{Lends, is_over};
-ghost use Rattle.kernel_step.specs.Loaned.{lent_out, Settles};
+ghost use Rattle.kernel_step.specs.Known.{IsKnownLoan};
+ghost use Rattle.kernel_step.specs.Loaned.{loan_out, lent_out, Settles, LendsAgain};
 ghost use Rattle.board.specs.Pairs.{publisher, pair_of};
 ghost use Rattle.bursts.specs.Totals.{history_totals};
-ghost use Rattle.bursts.specs.Holdings.{parts_in, sum_of, GrowsByLend, GrowsBySettle, GrowsByEvent};
+ghost use Rattle.bursts.specs.GoingOn.{GoesOn, GrowsByGoing};
+ghost use Rattle.bursts.specs.Holdings.{parts_in, sum_of, GrowsByLend, GrowsByLoan, GrowsBySettle, GrowsByEvent, lent_to};
+ghost use Rattle.bursts.specs.LoanIds.{id_of_loan};
+ghost use Rattle.bursts.specs.Tickets.{AreKnown};
 
 use crate::added_totals::{totals_of_event, totals_of_result};
 use crate::naming::Naming;
@@ -133,9 +137,7 @@ impl<'a, N: Naming> Bench<'a, N> {
         let Some(loan) = self.core.lend(quantum)? else {
             return Ok(None);
         };
-        share.note(&loan);
-        let ticket = self.loans.note::<Loan, OfLoan>(&loan);
-        Ok(Some(TicketedLoan::new(loan, ticket)))
+        Ok(Some(note(&mut self.loans, share, loan)))
     }
 
     /// Takes a loan's result back, as `Core::settle` does. The share grows by what its Turn and its Enter add, and the board shows
@@ -172,6 +174,48 @@ impl<'a, N: Naming> Bench<'a, N> {
             .enter(share, totals_of_result(pid, &answer), &self.core);
         publish(rt, self.board, &mut self.writer, &self.core);
         Ok(answer)
+    }
+
+    /// Lends this process, as `Core::lend_again` does. A loan that is given is noted in the share, and has a ticket, as that of
+    /// `lend_ticketed`.
+    fn lend_again(
+        &mut self,
+        pid: u32,
+        quantum: u32,
+        share: &mut Share<N>,
+    ) -> Option<TicketedLoan<N>>
+        ensures lends { LendsAgain self.old.core pid quantum self.new.core (option_map loan_out result) }
+        ensures share { GrowsByLoan share.old share.new result }
+        ensures stopped { self.new.stopped ≡ self.old.stopped }
+    {
+        known_loans_stay();
+        self.core.has_lendings();
+        let loan = self.core.lend_again(pid, quantum)?;
+        Some(note(&mut self.loans, share, loan))
+    }
+
+    /// Takes a result back, as `settle_ticketed`, and lends its process again for what is left of the quantum. So a process that came
+    /// to a call goes on while its worker has the lock once. No loan is given where nothing is left, once `stop` was called, and where
+    /// `Core::lend_again` gives none.
+    pub fn go_on<R: Wait>(
+        &mut self,
+        rt: &R,
+        done: TicketedDone<N>,
+        share: &mut Share<N>,
+    ) -> Result<(Answer, Option<TicketedLoan<N>>), Rejected>
+        ensures goes_on { GoesOn self.old.core done self.new.core result }
+        ensures stopped { self.new.stopped ≡ self.old.stopped }
+        ensures ends { self.old.stopped ≡ true → IfOk result (λ r. r.1 ≡ None) }
+        ensures share { GrowsByGoing done share.old share.new result }
+    {
+        let pid = done.pid();
+        let left = done.left();
+        let answer = self.settle_ticketed(rt, done, share)?;
+        if left == 0 || self.stopped {
+            return Ok((answer, None));
+        }
+        let loan = self.lend_again(pid, left, share);
+        Ok((answer, loan))
     }
 
     /// Applies an event, as `Core::apply` does. The share grows by what the event adds, and the board shows what is committed after
@@ -228,6 +272,21 @@ pub fn gather<'a, N: Naming>(bench: Bench<'a, N>, shares: Vec<Share<N>>) -> Core
     let Bench { core, books, .. } = bench;
     books.close(shares);
     core
+}
+
+/// Notes a loan that was given, in the share and in the log.
+fn note<N: Naming>(
+    loans: &mut Log<LentLoan, N>,
+    share: &mut Share<N>,
+    loan: Loan,
+) -> TicketedLoan<N>
+    ensures loan { result ≡ loan }
+    ensures share { share.new ≡ lent_to share.old (id_of_loan loan ∷ []) }
+    ensures known { (k : Kernel) → AreKnown k loans.old → IsKnownLoan k loan.pid loan.number loan.began.value → AreKnown k loans.new }
+{
+    share.note(&loan);
+    let ticket = loans.note::<Loan, OfLoan>(&loan);
+    TicketedLoan::new(loan, ticket)
 }
 
 /// Publishes the core's pair, neither number of which ever falls.

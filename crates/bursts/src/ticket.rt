@@ -1,5 +1,5 @@
 //! `TicketedLoan`, `TicketedDone`: a loan and its result, with the ticket by which their bench knows them as its own.
-ghost use Rattle.std.specs.Prelude.{◌≡◌, IfSome};
+ghost use Rattle.std.specs.Prelude.{◌≡◌, ◌-◌, IfSome};
 ghost use Rattle.bursts.specs.Tickets.{IsTicketOf};
 
 use crate::burst::run_loan;
@@ -132,6 +132,13 @@ impl<N: Naming> TicketedDone<N> {
         ensures { result ≡ self.now.count }
     {
         self.done.count
+    }
+
+    /// What is left of the loan's quantum.
+    pub(crate) fn left(&self) -> u32
+        ensures { result ≡ self.now.quantum - self.now.count }
+    {
+        self.done.quantum.saturating_sub(self.done.count)
     }
 
     /// The result alone.

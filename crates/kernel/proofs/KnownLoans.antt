@@ -12,7 +12,7 @@ use Rattle.kernel_model.specs.declared.answer.Refused.{Refused}
 use Rattle.kernel_model.specs.declared.event.Event.{Event}
 use Rattle.kernel_model.proofs.Limits.{at_below}
 use Rattle.kernel_step.specs.Known.{IsKnownLoan}
-use Rattle.kernel_step.specs.Loaned.{Settles, loan_result}
+use Rattle.kernel_step.specs.Loaned.{Settles, LendsAgain, loan_result}
 use Rattle.kernel_step.specs.declared.loan.Done.{Done}
 use Rattle.kernel_step.specs.declared.loan.Rejected.{Rejected}
 use Rattle.kernel_step.specs.Tasks.{process_of as process_in, bare, lending_of}
@@ -158,6 +158,13 @@ given-known old new quantum (Ok (Some l)) each h =
     subst (λ (k : Kernel). IsKnownLoan k l.process l.number l.began) (sym next.noted) (given-loan old quantum l (process_of old l.process) each refl next.began next.number)
 given-known old new quantum (Err why) each h = tt
 
+pub again-known : (old new : Kernel) (pid quantum : ℕ) (given : Option LoanOut) → length old.lendings ≡ length (now old).sync.processes
+    → LendsAgain old pid quantum new given → IfSome given (λ l. IsKnownLoan new l.process l.number l.began)
+again-known old new pid quantum None each h = tt
+again-known old new pid quantum (Some l) each h =
+    let lends = h.1 in
+    subst (λ (k : Kernel). IsKnownLoan k l.process l.number l.began) (sym lends.noted) (given-loan old quantum l (process_of old l.process) each refl lends.began lends.number)
+
 -- ---- what a core does
 stays-at : (old k new : Kernel) → new ≡ k → StaysKnown old k → StaysKnown old new
 stays-at old k new same h = subst (λ (x : Kernel). StaysKnown old x) (sym same) h
@@ -166,6 +173,10 @@ pub lends-stay : (old new : Kernel) (quantum : ℕ) (result : Result (Option Loa
 lends-stay old new quantum (Ok None) h = stays-at old old new h.1.1 (stays-refl old)
 lends-stay old new quantum (Ok (Some l)) h = stays-at old (with_loan old l.process quantum) new h.1.noted (kept-known old (with_loan old l.process quantum) (loan-keeps old l.process quantum))
 lends-stay old new quantum (Err why) h = stays-at old old new h.2 (stays-refl old)
+
+pub again-stays : (old new : Kernel) (pid quantum : ℕ) (given : Option LoanOut) → LendsAgain old pid quantum new given → StaysKnown old new
+again-stays old new pid quantum None h = stays-at old old new h (stays-refl old)
+again-stays old new pid quantum (Some l) h = stays-at old (with_loan old l.process quantum) new h.1.noted (kept-known old (with_loan old l.process quantum) (loan-keeps old l.process quantum))
 
 pub applies-stay : LentStay → (old new : Kernel) (e : Event) (result : Result Answer Refused) → Applies old e new result → StaysKnown old new
 applies-stay law old new e (Ok a) h = stays-at old (with_event old e) new h.2 (kept-known old (with_event old e) (event-keeps law old e h.0))

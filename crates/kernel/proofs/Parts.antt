@@ -16,7 +16,7 @@ use Rattle.kernel_model.specs.declared.answer.Answer.{Answer}
 use Rattle.kernel_model.specs.declared.answer.Refused.{Refused}
 use Rattle.kernel_model.specs.declared.event.Event.{Event}
 use Rattle.kernel_model.specs.declared.event.Event.TheVariants.{Turn, Enter}
-use Rattle.kernel_step.specs.Loaned.{loan_result}
+use Rattle.kernel_step.specs.Loaned.{loan_result, LendsAgain}
 use Rattle.kernel_step.specs.Represents.{Represents, Steps, TakesBack, kernel_in}
 use Rattle.kernel_step.proofs.FewLoans.{out-lent}
 use Rattle.kernel_step.specs.declared.loan.Done.{Done}
@@ -119,6 +119,11 @@ pub lent-core : (b : Boot) (old new : Running) (sums : Sums) (quantum : ℕ) (re
 lent-core b old new sums quantum (Ok None) h stands lends = still-core b old new sums h stands (ap (λ (k : Kernel). k.history) lends.1.1)
 lent-core b old new sums quantum (Ok (Some loan)) h stands lends = still-core b old new sums h stands (ap (λ (k : Kernel). k.history) lends.1.noted)
 lent-core b old new sums quantum (Err why) h stands lends = still-core b old new sums h stands (ap (λ (k : Kernel). k.history) lends.2)
+
+pub again-core : (b : Boot) (old new : Running) (sums : Sums) (pid quantum : ℕ) (given : Option LoanOut) → IsCore b old sums → Represents b new
+    → LendsAgain (kernel_in b old) pid quantum (kernel_in b new) given → IsCore b new sums
+again-core b old new sums pid quantum None h stands lends = still-core b old new sums h stands (ap (λ (k : Kernel). k.history) lends)
+again-core b old new sums pid quantum (Some loan) h stands lends = still-core b old new sums h stands (ap (λ (k : Kernel). k.history) lends.1.noted)
 
 -- what the parts keep
 pub core-keeps : (b : Boot) (r : Running) (sums : Sums) → IsCore b r sums → (ran : ℕ) → ran ≡ ran_by_turns (kernel_in b r) → ran ≤ 2 ^ 50

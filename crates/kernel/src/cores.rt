@@ -1,11 +1,11 @@
 //! The core, and its events.
-ghost use Rattle.std.specs.Prelude.{◌≡◌, ◌+◌, IfOk};
+ghost use Rattle.std.specs.Prelude.{◌≡◌, ◌+◌, option_map, IfOk};
 ghost use Rattle.kernel_model.specs.Answers.{Applies};
 ghost use Rattle.kernel_model.specs.Ran.{ran_by_turns, ran_in};
 ghost use Rattle.kernel_model.specs.Loans.{Lends};
 ghost use Rattle.kernel_model.specs.World.{Boot};
 ghost use Rattle.kernel_step.specs.Known.{IsKnownResult};
-ghost use Rattle.kernel_step.specs.Loaned.{lent_out, Settles};
+ghost use Rattle.kernel_step.specs.Loaned.{loan_out, lent_out, Settles, LendsAgain};
 ghost use Rattle.kernel_step.specs.Represents.{Represents, kernel_in};
 
 use crate::sums::Sums;
@@ -109,6 +109,14 @@ impl Core {
         ensures { Lends self.old quantum self.new (lent_out result) }
     {
         self.running.lend(quantum)
+    }
+
+    /// Lends this process, where it is lendable, whichever was lent last. So a process whose result was just taken back may go on. None
+    /// where it is not lendable, and where the history or the memory has no room for a loan.
+    pub fn lend_again(&mut self, pid: u32, quantum: u32) -> Option<Loan>
+        ensures { LendsAgain self.old pid quantum self.new (option_map loan_out result) }
+    {
+        self.running.lend_again(pid, quantum)
     }
 
     /// Takes a loan's result back. It becomes a Turn of its instructions and, where the state reached stands at a call or a trap,

@@ -6,7 +6,7 @@ ghost use Rattle.kernel_model.specs.declared.answer.Answer.{Answer};
 ghost use Rattle.kernel_model.specs.declared.answer.Refused.{Refused};
 ghost use Rattle.kernel_model.specs.declared.event.Event.{Event};
 ghost use Rattle.kernel_step.specs.Known.{IsKnownLoan};
-ghost use Rattle.kernel_step.specs.Loaned.{Settles};
+ghost use Rattle.kernel_step.specs.Loaned.{Settles, LendsAgain};
 ghost use Rattle.kernel_step.specs.declared.loan.Done.{Done};
 ghost use Rattle.kernel_step.specs.declared.loan.Rejected.{Rejected};
 ghost use Rattle.kernel.specs.Known.{StaysKnown};
@@ -28,7 +28,10 @@ impl Core {
 pub fn known_loans_stay()
     ensures given { (old new : Kernel) (quantum : ℕ) (result : Result (Option LoanOut) Refused) → length old.lendings ≡ length (now old).sync.processes
         → Lends old quantum new result → IfOk result (λ given. IfSome given (λ l. IsKnownLoan new l.process l.number l.began)) }
+    ensures given_again { (old new : Kernel) (pid quantum : ℕ) (given : Option LoanOut) → length old.lendings ≡ length (now old).sync.processes
+        → LendsAgain old pid quantum new given → IfSome given (λ l. IsKnownLoan new l.process l.number l.began) }
     ensures lends { (old new : Kernel) (quantum : ℕ) (result : Result (Option LoanOut) Refused) → Lends old quantum new result → StaysKnown old new }
+    ensures lends_again { (old new : Kernel) (pid quantum : ℕ) (given : Option LoanOut) → LendsAgain old pid quantum new given → StaysKnown old new }
     ensures applies { (old new : Kernel) (e : Event) (result : Result Answer Refused) → Applies old e new result → StaysKnown old new }
     ensures settles { (old new : Kernel) (done : Done) (result : Result Answer Rejected) → Settles old done new result → StaysKnown old new }
 {

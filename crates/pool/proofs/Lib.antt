@@ -6,3 +6,4 @@ pub mod Sums
 pub mod Advance
 pub mod Works
 pub mod Fresh
+pub mod GoingOn

@@ -1,25 +1,11 @@
 -- A worker's turns, one after the other.
-use Rattle.std.proofs.Common.{◌≡◌, ◌⊎◌, ℕ, zero, suc, refl, subst, Ok, Err, inl, inr}
-use Rattle.std.specs.Prelude.{Option, Result}
+use Rattle.std.proofs.Common.{◌≡◌, ◌⊎◌, ℕ, zero, suc, refl, subst, inl, inr}
+use Rattle.std.specs.Prelude.{Option}
 use Rattle.bursts.specs.declared.fault.WorkFault.{WorkFault}
-use Rattle.bursts.specs.declared.fault.WorkFault.TheVariants as fault
 use Rattle.pool.specs.declared.crewing.Next.{Next}
 use Rattle.pool.specs.declared.crewing.Next.TheVariants as next
-use Rattle.pool.specs.declared.turning.Pooled.{Pooled}
-use Rattle.pool.specs.declared.turning.Pooled.TheVariants as pooled
 use Rattle.pool.specs.Seats.{Seated}
-use Rattle.pool.specs.Turns.{TurnsOut}
-use Rattle.pool.specs.Crews.{ThenDoes, TakesTurn, WentOn, WorksUntil}
-
--- whatever held the gate
-any_gate : (a m : Seated) (q : ℕ) (H : ℕ → Type 0) (turned : Result Pooled WorkFault) → TurnsOut a q H m turned → TurnsOut a q (λ pid. Unit {0}) m turned
-any_gate a m q H (Ok pooled.Idle) t = t
-any_gate a m q H (Ok (pooled.Worked s)) t = (t.0, t.1, t.2, (tt, t.3.1))
-any_gate a m q H (Err (fault.Lend why)) t = t
-any_gate a m q H (Err (fault.Settle rejected)) t = (t.0, t.1, t.2, (tt, t.3.1))
-
-pub takes_turn : (a m b : Seated) (q : ℕ) (H : ℕ → Type 0) (turned : Result Pooled WorkFault) (does : Next) → TurnsOut a q H m turned → ThenDoes turned m b does → TakesTurn q a b does
-takes_turn a m b q H turned does t rest = (turned, m, any_gate a m q H turned t, rest)
+use Rattle.pool.specs.Crews.{TakesTurn, WentOn, WorksUntil}
 
 -- the turns so far
 abbrev pub SoFar : ℕ → Seated → Seated → Type 0

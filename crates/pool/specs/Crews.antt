@@ -5,10 +5,9 @@ use Rattle.bursts.specs.declared.fault.WorkFault.{WorkFault}
 use Rattle.bursts.specs.declared.fault.WorkFault.TheVariants as fault
 use Rattle.pool.specs.declared.crewing.Next.{Next}
 use Rattle.pool.specs.declared.crewing.Next.TheVariants as next
-use Rattle.pool.specs.declared.turning.Pooled.{Pooled}
-use Rattle.pool.specs.declared.turning.Pooled.TheVariants as pooled
+use Rattle.pool.specs.GoingOn.{TurnsOn}
 use Rattle.pool.specs.Seats.{Seated}
-use Rattle.pool.specs.Turns.{TurnsOut, Asks}
+use Rattle.pool.specs.Turns.{Asks}
 
 -- of the fault that is kept, with its place, and one of this place: that of the earlier place
 abbrev pub earlier : Option (ℕ × WorkFault) → ℕ → WorkFault → Option (ℕ × WorkFault)
@@ -27,14 +26,14 @@ AsksThen old new does = (over : Result Bool Rejected) × Asks old new over × (d
 
 -- After a turn that worked it asks for a loan again. After an idle one it asks whether the work is over. After one that failed it
 -- ends with the fault.
-abbrev pub ThenDoes : Result Pooled WorkFault → Seated → Seated → Next → Type 0
-ThenDoes (Ok (pooled.Worked s)) old new does = (new ≡ old) × (does ≡ next.Ask)
-ThenDoes (Ok pooled.Idle) old new does = AsksThen old new does
+abbrev pub ThenDoes : Result Bool WorkFault → Seated → Seated → Next → Type 0
+ThenDoes (Ok true) old new does = (new ≡ old) × (does ≡ next.Ask)
+ThenDoes (Ok false) old new does = AsksThen old new does
 ThenDoes (Err failed) old new does = (new ≡ old) × (does ≡ next.End (Some failed))
 
 -- A worker takes a turn at its seat, and does this next.
 abbrev pub TakesTurn : ℕ → Seated → Seated → Next → Type 0
-TakesTurn q old new does = (turned : Result Pooled WorkFault) × (m : Seated) × TurnsOut old q (λ pid. Unit {0}) m turned × ThenDoes turned m new does
+TakesTurn q old new does = (turned : Result Bool WorkFault) × (m : Seated) × TurnsOn old q m turned × ThenDoes turned m new does
 
 -- it took so many turns, and went on after each
 abbrev pub WentOn : ℕ → Seated → Seated → ℕ → Type 0

@@ -7,5 +7,6 @@ pub mod Seating
 pub mod Fetching
 pub mod Settled
 pub mod Turns
+pub mod GoingOn
 pub mod Crews
 pub mod Faults

@@ -4,7 +4,6 @@ ghost use Rattle.pool.specs.Crews.{earlier, next_after as next_of, AsksThen, Tak
 
 use crate::fault::CrewFault;
 use crate::seats::Seat;
-use crate::turning::Pooled;
 use bursts::{Gate, Naming, Rejected, WorkFault};
 use idle::Backoff;
 use std::slice::IterMut;
@@ -187,9 +186,9 @@ fn take_turn<N: Naming, G: Gate, R: Wait>(
 ) -> Next
     ensures { TakesTurn quantum seat.old seat.new result }
 {
-    match seat.turn(rt, gate, quantum) {
-        Ok(Pooled::Worked(_)) => Next::Ask,
-        Ok(Pooled::Idle) => after_idle_turn(rt, seat, quantum),
+    match seat.turn_on(rt, gate, quantum) {
+        Ok(true) => Next::Ask,
+        Ok(false) => after_idle_turn(rt, seat, quantum),
         Err(fault) => Next::End(Some(fault)),
     }
 }

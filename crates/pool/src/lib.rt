@@ -7,6 +7,7 @@ mod crewing;
 mod deques;
 mod fault;
 mod fetching;
+mod going_on;
 mod hand;
 mod loans;
 mod locking;

@@ -2,15 +2,9 @@
 use Rattle.std.proofs.Common.{Ok}
 use Rattle.crossbeam_utils.specs.Seq.{cell_view}
 use Rattle.kernel_step.specs.Loaned.{lent_out}
-use Rattle.bursts.specs.Tickets.{lent_loan}
 use Rattle.bursts.proofs.Publishing.{lend_keeps}
-use Rattle.bursts.proofs.Tickets.{known_stay, given_one, ticket_of, noted_known}
+use Rattle.bursts.proofs.Tickets.{known_stay, given_one}
 use Rattle.bursts.proofs.bench.Bench.lend_ticketed.Goals as goal
-
-pub new-requires : goal.new-requires
-new-requires g c =
-    let l = c.in-Some.loan in
-    ticket_of c.self.inside.loans c.note-ticket.new.self (lent_loan l.pid l.number l.began.value) c.note-ticket.result c.note-ticket.ensures.noted
 
 pub invariant_of-self : goal.invariant_of-self
 invariant_of-self g c =
@@ -50,7 +44,7 @@ invariant_of-self-2 g c =
       c.self.invariant.1,
       kept.0,
       kept.1,
-      noted_known later c.self.inside.loans c.note-ticket.new.self (lent_loan l.pid l.number l.began.value) c.note-ticket.result c.note-ticket.ensures.noted c.note-ticket.ensures.none
+      c.note.ensures.known later
           (known_stay k later (law.lends k later c.args.quantum result c.in_ok-loan.ensures) c.self.inside.loans c.self.invariant.4)
           (given_one later c.in_ok-loan.field-0 l c.in-Some.is (law.given k later c.args.quantum result c.has_lendings.ensures c.in_ok-loan.ensures)),
     )
