@@ -1,4 +1,5 @@
 -- The lemmas.
+pub mod StageCopies
 pub mod Parts
 pub mod Formed
 pub mod Planning

@@ -30,14 +30,14 @@ const GROUP: usize = 64;
 /// to that half's first gate, the pieces, the gate, and byte 0, which selects the half. After the last stage the group is
 /// committed.
 pub struct Committer {
-    device: SimDisk,
-    stages: Vec<Vec<Piece>>,
-    half: bool,
-    gate: u32,
-    committed: u64,
-    next_half: bool,
-    next_gate: u32,
-    next_committed: u64,
+    pub(crate) device: SimDisk,
+    pub(crate) stages: Vec<Vec<Piece>>,
+    pub(crate) half: bool,
+    pub(crate) gate: u32,
+    pub(crate) committed: u64,
+    pub(crate) next_half: bool,
+    pub(crate) next_gate: u32,
+    pub(crate) next_committed: u64,
 }
 
 impl Drop for Committer {

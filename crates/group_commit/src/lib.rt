@@ -4,6 +4,7 @@
 #![tactic(auto)]
 
 mod committer;
+mod copying;
 mod pieces;
 mod plan;
 mod refusal;
