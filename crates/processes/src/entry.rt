@@ -127,8 +127,9 @@ impl ProcEntry {
     pub fn try_clone(&self, alloc: Global) -> Result<ProcEntry, AllocError>
         ensures { IfOk result (λ copy. copy.part ≡ self.now.part) }
     {
+        let descriptors = self.descriptors.duplicate();
         Ok(ProcEntry {
-            descriptors: self.descriptors.duplicate(),
+            descriptors,
             children: self.children.to_vec(alloc)?,
             status: self.status,
         })
