@@ -1,6 +1,7 @@
 //! The names of mnemonics, directives and registers.
 ghost use Rattle.std.specs.Prelude.{◌≡◌};
 ghost use Rattle.asm_statements.specs.Names.{named, mnemonics, directives, registers, value_named};
+ghost use Rattle.std.specs.Str.{bytes_eq};
 
 use crate::mnemonic::{
     BranchOp, Directive, ImmediateOp, Link, LoadOp, Mnemonic, PlainOp, RegisterOp, ShiftOp,
@@ -188,14 +189,23 @@ pub fn register_named(word: &[u8]) -> Option<Reg>
 fn value_named<T: Copy>(rows: &[(&str, T)], word: &[u8]) -> Option<T>
     ensures { result ≡ value_named rows.now word.now }
 {
-    match rows {
-        [] => None,
-        [(name, value), rest @ ..] => {
-            if name.as_bytes() == word {
-                Some(*value)
-            } else {
-                value_named(rest, word)
-            }
+    for row in rows {
+        if is_same(row.0.as_bytes(), word) {
+            return Some(row.1);
         }
     }
+    None
+}
+
+/// Whether two names are the same. Most differ in their first byte.
+fn is_same(name: &[u8], word: &[u8]) -> bool
+    ensures { result ≡ bytes_eq name.now word.now }
+{
+    if let [first, ..] = name
+        && let [other, ..] = word
+        && *first != *other
+    {
+        return false;
+    }
+    name == word
 }
