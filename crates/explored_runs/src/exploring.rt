@@ -4,10 +4,11 @@ ghost use Rattle.std.specs.Prelude.{⊤};
 use crate::call_search::{search_calls, search_calls_part};
 use crate::crew::after_each;
 use crate::findings::{Findings, Wanted, print_outcome};
+use crate::limits::{Limits, taken_by};
 use crate::outcome::Outcome;
 use crate::part_file::{PartHead, write_end, write_head, write_outcome, write_state};
 use crate::programs::Programs;
-use crate::runs::{After, Runs};
+use crate::runs::{After, Next, Runs};
 use crate::saved::{script_of, setup_lines};
 use crate::summed::Summed;
 use crate::totals::Totals;
@@ -19,23 +20,7 @@ use std::alloc::{AllocError, Global};
 use std::io::Write;
 use std::rt::Files;
 use std::thread::Threads;
-use std::{fs, io, thread};
-
-/// How many states each thread takes of a level before what they came to is put together.
-const TAKEN: usize = 64;
-
-/// How far is searched, and by how many threads.
-#[derive(Clone, Copy)]
-pub struct Limits {
-    /// How many instructions a process runs at most to its next call.
-    pub instructions: u32,
-    /// No further level is searched where more states were found.
-    pub states: u64,
-    /// None: by as many as the host has processors for.
-    pub threads: Option<u32>,
-    /// Which part is searched; None: the whole.
-    pub part: Option<Part>,
-}
+use std::{fs, io};
 
 /// A search of runs, which prints their outcomes.
 struct Exploring<'r, 'p, 'w, 'o, 'e, R, O, E> {
@@ -77,9 +62,9 @@ fn sort_out(
     over: &mut Vec<Outcome>,
 ) -> Result<(), AllocError> {
     for after in answers {
-        match after {
-            After::More(mut reached) => next.append(&mut reached)?,
-            After::Over(outcome) => over.push(outcome)?,
+        match after.next {
+            Next::More(mut reached) => next.append(&mut reached)?,
+            Next::Over(outcome) => over.push(outcome)?,
         }
     }
     Ok(())
@@ -88,17 +73,6 @@ fn sort_out(
 /// The path of the script of an outcome.
 fn script_path(alloc: Global, folder: &str, number: u64) -> Result<String, AllocError> {
     format!(in alloc; "{folder}/outcome-{number}.script")
-}
-
-/// How many threads search.
-fn threads_of<R: Threads>(rt: &R, wanted: Option<u32>) -> usize {
-    match wanted {
-        Some(threads) => threads as usize,
-        None => match thread::available_parallelism(rt) {
-            Ok(processors) => processors.get(),
-            Err(_) => 4,
-        },
-    }
 }
 
 impl<R: Files + AllocGlobal, O: Write, E: Write> Exploring<'_, '_, '_, '_, '_, R, O, E> {
@@ -159,7 +133,7 @@ impl<R: Files + AllocGlobal, O: Write, E: Write> Exploring<'_, '_, '_, '_, '_, R
     fn note(&mut self, level: &[Found<Vec<u32>>], answers: &[After]) -> io::Result<()> {
         if self.part.is_some() {
             for (found, after) in level.iter().zip(answers.iter()) {
-                write_state(found, after.calls(), &mut self.out)?;
+                write_state(found, after.next.calls(), &mut self.out)?;
             }
         }
         Ok(())
@@ -217,7 +191,7 @@ impl<R: Files + AllocGlobal, O: Write, E: Write> Moves for Exploring<'_, '_, '_,
         let mut next = Vec::new(self.rt.alloc());
         let mut over = Vec::new(self.rt.alloc());
         let mut done = 0u64;
-        for taken in level.chunks(self.threads.saturating_mul(TAKEN).max(1)) {
+        for taken in level.chunks(taken_by(self.threads)) {
             let answers = after_each(rt, self.runs, self.threads, taken)?;
             self.note(taken, answers.as_slice())?;
             sort_out(answers, &mut next, &mut over)?;
@@ -260,11 +234,12 @@ pub fn explore_orders<R: Files + AllocGlobal + Threads + Sync, O: Write, E: Writ
         alloc,
         programs: &programs,
         instructions: limits.instructions,
+        visits: false,
     };
     let mut exploring = Exploring {
         rt,
         runs: &runs,
-        threads: threads_of(rt, limits.threads),
+        threads: limits.threads(rt),
         part: limits.part,
         wanted,
         setup: lines,

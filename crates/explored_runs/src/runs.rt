@@ -7,25 +7,42 @@ use crate::outcome::{Outcome, outcome_of};
 use crate::programs::Programs;
 use crate::replay::{Called, Replay};
 use crate::state_key::key_of;
+use crate::visited::VisitedState;
 use faults::Fault;
 use state_search::Reached;
 use std::alloc::{AllocError, Global};
 
-/// What comes after a run.
+/// The runs that come after a run.
 #[derive(Drop)]
-pub enum After {
-    /// Others, by one call more.
+pub enum Next {
+    /// Those of one call more.
     More(Vec<Reached<Vec<u32>>>),
     /// None: no process can go on.
     Over(Outcome),
 }
 
-impl After {
+/// What was found of a run.
+#[derive(Drop)]
+pub struct After {
+    /// Its state, where states are visited.
+    pub visited: Option<VisitedState>,
+    pub next: Next,
+}
+
+impl Next {
+    /// The runs.
+    pub fn into_reached(self, alloc: Global) -> Vec<Reached<Vec<u32>>> {
+        match self {
+            Next::More(reached) => reached,
+            Next::Over(_outcome) => Vec::new(alloc),
+        }
+    }
+
     /// How many calls were tried that do something.
     pub fn calls(&self) -> usize {
         match self {
-            After::More(reached) => reached.len(),
-            After::Over(_) => 0,
+            Next::More(reached) => reached.len(),
+            Next::Over(_) => 0,
         }
     }
 }
@@ -37,6 +54,8 @@ pub struct Runs<'a> {
     pub programs: &'a Programs,
     /// How many instructions a process runs at most to its next call.
     pub instructions: u32,
+    /// Whether states are visited.
+    pub visits: bool,
 }
 
 /// What came of trying a call after a run.
@@ -124,10 +143,27 @@ impl Runs<'_> {
         }
     }
 
-    /// The runs after one more call: after a private one alone, if there is one, or after each that can be made.
+    /// The state of a run that was replayed, where states are visited.
+    fn visited(&self, calls: &[u32], replay: &Replay) -> Result<Option<VisitedState>, Fault> {
+        if !self.visits {
+            return Ok(None);
+        }
+        Ok(Some(VisitedState::of(self.alloc, calls, replay)?))
+    }
+
+    /// What is found of the run of these calls.
     pub fn after(&self, calls: &[u32]) -> Result<After, Fault> {
+        let replay = self.replay(calls)?;
+        Ok(After {
+            visited: self.visited(calls, &replay)?,
+            next: self.next(calls, replay)?,
+        })
+    }
+
+    /// The runs after one more call: after a private one alone, if there is one, or after each that can be made.
+    fn next(&self, calls: &[u32], replay: Replay) -> Result<Next, Fault> {
+        let mut replay = replay;
         let mut reached = Vec::new(self.alloc);
-        let mut replay = self.replay(calls)?;
         let mut is_used = false;
         for place in 0..replay.last_process() {
             if is_used {
@@ -140,12 +176,12 @@ impl Runs<'_> {
                     reached.push(run)?;
                     is_used = true;
                 }
-                Tried::Private(run) => return Ok(After::More(alone(self.alloc, run)?)),
+                Tried::Private(run) => return Ok(Next::More(alone(self.alloc, run)?)),
             }
         }
         if !reached.is_empty() {
-            return Ok(After::More(reached));
+            return Ok(Next::More(reached));
         }
-        Ok(After::Over(outcome_of(self.alloc, calls, &mut replay)?))
+        Ok(Next::Over(outcome_of(self.alloc, calls, &mut replay)?))
     }
 }
