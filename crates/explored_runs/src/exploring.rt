@@ -1,5 +1,5 @@
 //! All outcomes of programs: the search, and what it prints.
-ghost use Rattle.std.specs.Prelude.{⊤};
+ghost use Rattle.std.specs.Prelude.{⊤, tt};
 
 use crate::call_search::{search_calls, search_calls_part};
 use crate::crew::after_each;
@@ -15,7 +15,7 @@ use crate::totals::Totals;
 use faults::{Fault, at_path};
 use progress::{Progress, ProgressCount};
 use scripts::{Setup, write_setup};
-use state_search::{Found, Key, Moves, Part, Reached};
+use state_search::{Bounds, Found, Key, Moves, Part, Reached};
 use std::alloc::{AllocError, Global};
 use std::io::Write;
 use std::rt::Files;
@@ -151,19 +151,19 @@ impl<R: Files + AllocGlobal + Threads + Sync, O: Write, E: Write> Exploring<
     E,
 > {
     /// Searches all, and prints how many states, calls and outcomes there were. Refused where not all was explored.
-    fn search_whole(&mut self, most: u64) -> Result<(), Fault> {
+    fn search_whole(&mut self, bounds: Bounds) -> Result<(), Fault> {
         let rt = self.rt;
-        let searched = search_calls(rt, rt.alloc(), self, most)?;
+        let searched = search_calls(rt, rt.alloc(), self, bounds)?;
         let totals = Totals::of(&searched);
         totals.print(&self.findings, &mut self.out)?;
         totals.test_all(&self.findings)
     }
 
     /// Searches a part, whose file is printed. Refused where the part did not explore all that is its own.
-    fn search_part(&mut self, head: PartHead) -> Result<(), Fault> {
+    fn search_part(&mut self, bounds: Bounds, head: PartHead) -> Result<(), Fault> {
         write_head(head, &mut self.out)?;
         let rt = self.rt;
-        let found = search_calls_part(rt, rt.alloc(), self, head.states, head.part)?;
+        let found = search_calls_part(rt, rt.alloc(), self, bounds, head.part)?;
         let totals = Totals::of(&found.searched);
         write_end(found.searched.left.as_slice(), totals.depth, &mut self.out)?;
         totals.test_all(&self.findings)
@@ -175,9 +175,13 @@ impl<R: Files + AllocGlobal, O: Write, E: Write> Moves for Exploring<'_, '_, '_,
 
     type Fault = Fault;
 
-    ghost begins = { λ _. ⊤ };
+    type Space = ();
 
-    ghost expands = { λ _ _. ⊤ };
+    ghost space = { λ _. tt };
+
+    ghost begins = { λ _ _. ⊤ };
+
+    ghost expands = { λ _ _ _. ⊤ };
 
     fn first(&mut self) -> Result<Reached<Vec<u32>>, Fault> {
         self.runs.first()
@@ -249,12 +253,15 @@ pub fn explore_orders<R: Files + AllocGlobal + Threads + Sync, O: Write, E: Writ
         before: 0,
     };
     match limits.part {
-        Some(part) => exploring.search_part(PartHead {
-            programs: sum_of(alloc, setup)?,
-            instructions: u64::from(limits.instructions),
-            states: limits.states,
-            part,
-        }),
-        None => exploring.search_whole(limits.states),
+        Some(part) => exploring.search_part(
+            limits.bounds(),
+            PartHead {
+                programs: sum_of(alloc, setup)?,
+                instructions: u64::from(limits.instructions),
+                states: limits.states,
+                part,
+            },
+        ),
+        None => exploring.search_whole(limits.bounds()),
     }
 }

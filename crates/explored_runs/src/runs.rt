@@ -30,14 +30,6 @@ pub struct After {
 }
 
 impl Next {
-    /// The runs.
-    pub fn into_reached(self, alloc: Global) -> Vec<Reached<Vec<u32>>> {
-        match self {
-            Next::More(reached) => reached,
-            Next::Over(_outcome) => Vec::new(alloc),
-        }
-    }
-
     /// How many calls were tried that do something.
     pub fn calls(&self) -> usize {
         match self {

@@ -1,18 +1,18 @@
 //! Visits each state of a search of all orders.
-ghost use Rattle.std.specs.Prelude.{⊤};
+ghost use Rattle.std.specs.Prelude.{⊤, tt};
 
 use crate::call_search::search_calls;
 use crate::crew::after_each;
 use crate::limits::{Limits, taken_by};
 use crate::programs::Programs;
-use crate::runs::{After, Runs};
-use crate::saved::{script_of, setup_lines};
+use crate::runs::{After, Next, Runs};
+use crate::saved::lines_of;
 use crate::totals::Totals;
 use crate::visited::VisitedState;
 use faults::Fault;
 use scripts::Setup;
 use state_search::{Found, Moves, Reached};
-use std::alloc::{AllocError, Global};
+use std::alloc::AllocError;
 use std::rt::Files;
 use std::thread::Threads;
 
@@ -32,11 +32,21 @@ pub trait StateTaker {
         requires { IsSync R.row };
 }
 
+/// How far a search came whose states were taken.
+#[derive(Clone, Copy)]
+pub struct ExploredStates {
+    pub totals: Totals,
+    /// Whether a process ran as far as it may in some end, and came to no call.
+    pub runs_on: bool,
+}
+
 /// A search of runs, whose states are taken.
 struct Visiting<'r, 'p, 't, T> {
     runs: &'r Runs<'p>,
     threads: usize,
     taker: &'t mut T,
+    /// Whether a process ran as far as it may in some end, and came to no call.
+    runs_on: bool,
 }
 
 impl<T> Drop for Visiting<'_, '_, '_, T> {
@@ -45,27 +55,30 @@ impl<T> Drop for Visiting<'_, '_, '_, T> {
             runs: _,
             threads: _,
             taker: _,
+            runs_on: _,
         } = self;
     }
 }
 
-/// Sorts out the states, and the runs to which their calls lead.
-fn sort_out(
-    alloc: Global,
-    answers: Vec<After>,
-    states: &mut Vec<VisitedState>,
-    next: &mut Vec<Reached<Vec<u32>>>,
-) -> Result<(), AllocError> {
-    for After {
-        visited,
-        next: after,
-    } in answers {
-        if let Some(state) = visited {
-            states.push(state)?;
+impl<T> Visiting<'_, '_, '_, T> {
+    /// Sorts out the states, and the runs to which their calls lead.
+    fn sort_out(
+        &mut self,
+        answers: Vec<After>,
+        states: &mut Vec<VisitedState>,
+        next: &mut Vec<Reached<Vec<u32>>>,
+    ) -> Result<(), AllocError> {
+        for answer in answers {
+            if let Some(state) = answer.visited {
+                states.push(state)?;
+            }
+            match answer.next {
+                Next::More(mut reached) => next.append(&mut reached)?,
+                Next::Over(outcome) => self.runs_on = self.runs_on || outcome.runs_on,
+            }
         }
-        next.append(&mut after.into_reached(alloc))?;
+        Ok(())
     }
-    Ok(())
 }
 
 impl<T: StateTaker> Moves for Visiting<'_, '_, '_, T> {
@@ -73,9 +86,13 @@ impl<T: StateTaker> Moves for Visiting<'_, '_, '_, T> {
 
     type Fault = T::Fault;
 
-    ghost begins = { λ _. ⊤ };
+    type Space = ();
 
-    ghost expands = { λ _ _. ⊤ };
+    ghost space = { λ _. tt };
+
+    ghost begins = { λ _ _. ⊤ };
+
+    ghost expands = { λ _ _ _. ⊤ };
 
     fn first(&mut self) -> Result<Reached<Vec<u32>>, T::Fault> {
         Ok(self.runs.first()?)
@@ -90,7 +107,7 @@ impl<T: StateTaker> Moves for Visiting<'_, '_, '_, T> {
         for taken in level.chunks(taken_by(self.threads)) {
             let answers = after_each(rt, self.runs, self.threads, taken)?;
             let mut states = Vec::new(self.runs.alloc);
-            sort_out(self.runs.alloc, answers, &mut states, &mut next)?;
+            self.sort_out(answers, &mut states, &mut next)?;
             self.taker.take(rt, states)?;
         }
         Ok(next)
@@ -105,7 +122,7 @@ pub fn explore_states<R: Files + AllocGlobal + Threads + Sync, T: StateTaker>(
     setup: &mut Setup,
     limits: Limits,
     taker: &mut T,
-) -> Result<Totals, T::Fault> {
+) -> Result<ExploredStates, T::Fault> {
     let programs = Programs::of_setup(rt, setup)?;
     let runs = Runs {
         alloc: rt.alloc(),
@@ -117,21 +134,24 @@ pub fn explore_states<R: Files + AllocGlobal + Threads + Sync, T: StateTaker>(
         runs: &runs,
         threads: limits.threads(rt),
         taker,
+        runs_on: false,
     };
-    let searched = search_calls(rt, rt.alloc(), &mut visiting, limits.states)?;
-    Ok(Totals::of(&searched))
+    let searched = search_calls(rt, rt.alloc(), &mut visiting, limits.bounds())?;
+    Ok(ExploredStates {
+        totals: Totals::of(&searched),
+        runs_on: visiting.runs_on,
+    })
 }
 
-/// The run of these calls as a script that `replay` takes: the set-up lines, and then the events.
-pub fn script_of_calls<R: Files + AllocGlobal>(
+/// The run of these calls as lines of a script: its events, and `drain`.
+pub fn lines_of_calls<R: Files + AllocGlobal>(
     rt: &R,
     setup: &mut Setup,
     instructions: u32,
     calls: &[u32],
-) -> Result<Vec<u8>, Fault> {
+) -> Result<String, Fault> {
     let alloc = rt.alloc();
     let programs = Programs::of_setup(rt, setup)?;
-    let lines = setup_lines(alloc, setup)?;
     let runs = Runs {
         alloc,
         programs: &programs,
@@ -139,5 +159,7 @@ pub fn script_of_calls<R: Files + AllocGlobal>(
         visits: false,
     };
     let replay = runs.replay(calls)?;
-    script_of(alloc, lines.as_slice(), &replay)
+    let mut lines = lines_of(alloc, replay.core.history())?;
+    lines.push_str("drain\n")?;
+    Ok(lines)
 }
