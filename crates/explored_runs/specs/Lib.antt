@@ -1,4 +1,6 @@
+pub mod Answering
 pub mod Booting
 pub mod CallSearches
 pub mod Owning
 pub mod Replays
+pub mod RunSearches

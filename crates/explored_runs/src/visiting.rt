@@ -1,17 +1,13 @@
 //! Visits each state of a search of all orders.
-ghost use Rattle.std.specs.Prelude.{⊤, tt};
-
-use crate::call_search::search_calls;
-use crate::crew::after_each;
-use crate::limits::{Limits, taken_by};
+use crate::limits::Limits;
 use crate::programs::Programs;
-use crate::runs::{After, Next, Runs};
+use crate::run_search::{Heard, Listener, search_runs};
+use crate::runs::Runs;
 use crate::saved::lines_of;
 use crate::totals::Totals;
 use crate::visited::VisitedState;
 use faults::Fault;
 use scripts::Setup;
-use state_search::{Found, Moves, Reached};
 use std::alloc::AllocError;
 use std::rt::Files;
 use std::thread::Threads;
@@ -40,77 +36,33 @@ pub struct ExploredStates {
     pub runs_on: bool,
 }
 
-/// A search of runs, whose states are taken.
-struct Visiting<'r, 'p, 't, T> {
-    runs: &'r Runs<'p>,
-    threads: usize,
+/// Hands the states of a search to a taker.
+struct Visiting<'t, T> {
     taker: &'t mut T,
     /// Whether a process ran as far as it may in some end, and came to no call.
     runs_on: bool,
 }
 
-impl<T> Drop for Visiting<'_, '_, '_, T> {
+impl<T> Drop for Visiting<'_, T> {
     fn drop(self) {
         let Visiting {
-            runs: _,
-            threads: _,
             taker: _,
             runs_on: _,
         } = self;
     }
 }
 
-impl<T> Visiting<'_, '_, '_, T> {
-    /// Sorts out the states, and the runs to which their calls lead.
-    fn sort_out(
-        &mut self,
-        answers: Vec<After>,
-        states: &mut Vec<VisitedState>,
-        next: &mut Vec<Reached<Vec<u32>>>,
-    ) -> Result<(), AllocError> {
-        for answer in answers {
-            if let Some(state) = answer.visited {
-                states.push(state)?;
-            }
-            match answer.next {
-                Next::More(mut reached) => next.append(&mut reached)?,
-                Next::Over(outcome) => self.runs_on = self.runs_on || outcome.runs_on,
-            }
-        }
-        Ok(())
-    }
-}
-
-impl<T: StateTaker> Moves for Visiting<'_, '_, '_, T> {
-    type State = Vec<u32>;
-
+impl<T: StateTaker> Listener for Visiting<'_, T> {
     type Fault = T::Fault;
 
-    type Space = ();
-
-    ghost space = { λ _. tt };
-
-    ghost begins = { λ _ _. ⊤ };
-
-    ghost expands = { λ _ _ _. ⊤ };
-
-    fn first(&mut self) -> Result<Reached<Vec<u32>>, T::Fault> {
-        Ok(self.runs.first()?)
+    fn hear<R: Threads + Sync>(&mut self, rt: &R, heard: Heard<'_>) -> Result<(), T::Fault> {
+        let Heard { over, visited, .. } = heard;
+        self.runs_on = self.runs_on || over.iter().any(|outcome| outcome.runs_on);
+        self.taker.take(rt, visited)
     }
 
-    fn expand<R: Threads + Sync>(
-        &mut self,
-        rt: &R,
-        level: &[Found<Vec<u32>>],
-    ) -> Result<Vec<Reached<Vec<u32>>>, T::Fault> {
-        let mut next = Vec::new(self.runs.alloc);
-        for taken in level.chunks(taken_by(self.threads)) {
-            let answers = after_each(rt, self.runs, self.threads, taken)?;
-            let mut states = Vec::new(self.runs.alloc);
-            self.sort_out(answers, &mut states, &mut next)?;
-            self.taker.take(rt, states)?;
-        }
-        Ok(next)
+    fn end_level(&mut self) -> Result<(), T::Fault> {
+        Ok(())
     }
 }
 
@@ -131,12 +83,16 @@ pub fn explore_states<R: Files + AllocGlobal + Threads + Sync, T: StateTaker>(
         visits: true,
     };
     let mut visiting = Visiting {
-        runs: &runs,
-        threads: limits.threads(rt),
         taker,
         runs_on: false,
     };
-    let searched = search_calls(rt, rt.alloc(), &mut visiting, limits.bounds())?;
+    let searched = search_runs(
+        rt,
+        &runs,
+        limits.threads(rt),
+        &mut visiting,
+        limits.bounds(),
+    )?;
     Ok(ExploredStates {
         totals: Totals::of(&searched),
         runs_on: visiting.runs_on,

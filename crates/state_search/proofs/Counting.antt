@@ -1,5 +1,6 @@
 -- How many states have a key.
 use Rattle.std.proofs.Common.{arith, ◌≡◌, ◌∙◌, ◌++◌, ◌∷◌, [], ◌+◌, ◌≤◌, suc, ℕ, List, Bool, true, false, ap, sym, refl}
+use Rattle.std.proofs.lemmas.Bool.{false≢true}
 use Rattle.std.specs.Prelude.{◌||◌, if◌then◌else◌}
 use Rattle.std.specs.List.{Contains}
 use Rattle.std.proofs.lemmas.List.Elements.{Contains-append_left, Contains-append_right, Contains-push}
@@ -19,7 +20,7 @@ pub record HasOne {S : Type 0} (found : List (Found S)) (k : Key) : Type 0 where
 module _ {S : Type 0} (k : Key) where
   -- those of two lists
   pub times-append : (xs ys : List (Found S)) → times k (xs ++ ys) ≡ times k xs + times k ys
-  times-append [] ys = refl
+  times-append [] ys = omega arith
   times-append (f ∷ xs) ys = by (times-append xs ys) (is_same f.key k)
     where
       by : times k (xs ++ ys) ≡ times k xs + times k ys → (b : Bool)
@@ -46,12 +47,9 @@ at-most-once n false is = omega (arith, is)
 -- one more state whose key was not known
 pub count-new : (same was now : Bool) (before after old : ℕ) → (same ≡ true → was ≡ false) → now ≡ (same || was) → after ≡ before + (if same then 1 else 0)
     → before + old ≡ one_if was → after + old ≡ one_if now
-count-new true true now before after old no sets more is = absurd (true-not-false (no refl))
-  where
-    true-not-false : true ≡ false → ⊥
-    true-not-false ()
-count-new true false now before after old no sets more is = let ends = ap one_if sets in omega (arith, more, is, ends)
-count-new false was now before after old no sets more is = let ends = ap one_if sets in omega (arith, more, is, ends)
+count-new true true now before after old fresh sets more is = absurd (false≢true (sym (fresh refl)))
+count-new true false now before after old fresh sets more is = let ends = ap one_if sets in omega (arith, more, is, ends)
+count-new false was now before after old fresh sets more is = let ends = ap one_if sets in omega (arith, more, is, ends)
 
 -- one whose key was known
 pub count-none : (same was now : Bool) → (same ≡ true → was ≡ true) → now ≡ (same || was) → was ≡ now

@@ -1,7 +1,8 @@
 -- How a search begins, goes on by a level, and leaves states to other parts.
-use Rattle.std.proofs.Common.{arith, ◌≡◌, ◌⊎◌, ◌∙◌, ◌++◌, ◌∷◌, [], ◌+◌, ◌<◌, ◌≤◌, ℕ, List, true, false, sym, ap, subst, inl, inr}
+use Rattle.std.proofs.Common.{arith, ◌≡◌, ◌⊎◌, ◌∙◌, ◌++◌, ◌∷◌, [], ◌+◌, ◌<◌, ◌≤◌, ℕ, List, length, true, false, sym, ap, subst, inl, inr}
 use Rattle.std.specs.List.{Contains}
 use Rattle.std.specs.HashSet.{HashSet}
+use Rattle.std.proofs.lemmas.List.{length-append}
 use Rattle.std.proofs.lemmas.List.Elements.{Contains-append_left, Contains-append_right, Contains-append_cases, Contains-push, Contains-push_cases}
 use Rattle.state_search.specs.Adding.{AreAdded, one_if}
 use Rattle.state_search.specs.Going.{AreLeft, IsGoing, IsParted}
@@ -298,3 +299,12 @@ module _ {S Z : Type 0} (begins : Reached S → Type 0) (expands : List (Found S
   goes-on-left going are =
       let all = leaves-others begins expands known gone left others own are.more depth going are.parted in
       rw (are.known, are.gone, are.others_are) all
+
+-- a part goes on from no more states than there may be
+pub within-left : {S Z : Type 0} (old new : HashSet Key Z) (gone left others gone_now own others_now gone_then : List (Found S)) (most : ℕ)
+    → AreLeft old new gone left others gone_now own others_now → gone_then ≡ gone_now ++ own → length gone + length left ≤ most → length gone_then ≤ most
+within-left old new gone left others gone_now own others_now gone_then most are joined few =
+    let all = ap length joined ∙ length-append gone_now own in
+    let same = ap length are.gone in
+    let size = are.parted.size in
+    omega (arith, all, same, size, few)

@@ -2,6 +2,7 @@
 use Rattle.std.proofs.Common.{arith, ◌≡◌, ◌⊎◌, ◌++◌, ◌∷◌, [], ◌==◌, ◌+◌, ℕ, List, Bool, true, false, ap, refl, subst, inl, inr}
 use Rattle.std.specs.Prelude.{if◌then◌else◌}
 use Rattle.std.specs.List.{Contains}
+use Rattle.std.proofs.lemmas.List.{length-append}
 use Rattle.std.proofs.lemmas.List.Elements.{Contains-append_left, Contains-push, Contains-push_cases}
 use Rattle.state_search.specs.Going.{IsParted, next_turn, own_from}
 use Rattle.state_search.specs.Searches.{times}
@@ -33,6 +34,7 @@ module _ {S : Type 0} (all own others : List (Found S)) (f : Found S) (parted : 
     own = among own parted.own;
     others = λ g is. still g (parted.others g is);
     counts = λ k. let was = parted.counts k in let now = times-append k all (f ∷ []) in let mine = times-append k own (f ∷ []) in omega (arith, was, now, mine);
+    size = let was = parted.size in let now = length-append all (f ∷ []) in let mine = length-append own (f ∷ []) in omega (arith, was, now, mine);
   }
 
   -- it is another's
@@ -48,6 +50,7 @@ module _ {S : Type 0} (all own others : List (Found S)) (f : Found S) (parted : 
     own = λ g is. still g (parted.own g is);
     others = among others parted.others;
     counts = λ k. let was = parted.counts k in let now = times-append k all (f ∷ []) in let theirs = times-append k others (f ∷ []) in omega (arith, was, now, theirs);
+    size = let was = parted.size in let now = length-append all (f ∷ []) in let theirs = length-append others (f ∷ []) in omega (arith, was, now, theirs);
   }
 
 -- all states may be one's own
@@ -57,6 +60,7 @@ all-own all = record {
   own = λ g is. is;
   others = λ g is. absurd (let within = is.1 in let no : ⊥ = omega (arith, within) in no);
   counts = λ k. omega arith;
+  size = omega arith;
 }
 
 -- whose turn it is after these states

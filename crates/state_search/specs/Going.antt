@@ -1,5 +1,5 @@
 -- A search that goes on, or a part of one.
-use Rattle.std.specs.Prelude.{◌≡◌, ℕ, ◌+◌, ◌==◌, nat_le, if◌then◌else◌, List, [], ◌∷◌, ◌++◌, ◌⊎◌, true}
+use Rattle.std.specs.Prelude.{◌≡◌, ℕ, ◌+◌, ◌==◌, nat_le, if◌then◌else◌, List, length, [], ◌∷◌, ◌++◌, ◌⊎◌, true}
 use Rattle.std.specs.List.{Contains}
 use Rattle.std.specs.HashSet.{HashSet}
 use Rattle.state_search.specs.Adding.{one_if}
@@ -20,6 +20,7 @@ pub record IsParted {S : Type 0} (all mine theirs : List (Found S)) : Type 0 whe
   pub own : (f : Found S) → Contains mine f → Contains all f
   pub others : (f : Found S) → Contains theirs f → Contains all f
   pub counts : (k : Key) → times k all ≡ times k mine + times k theirs
+  pub size : length all ≡ length mine + length theirs
 
 -- the states of the last level are left to others, but for some; nothing else of the search is changed
 pub record AreLeft {S Z : Type 0} (old new : HashSet Key Z) (gone_on left others gone_on_now own others_now : List (Found S)) : Type 0 where

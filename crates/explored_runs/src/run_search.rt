@@ -1,0 +1,167 @@
+//! The search of runs, whoever is told what it finds.
+ghost use Rattle.std.specs.Prelude.{◌≡◌, ◌++◌, [], ◌<◌, length, true, IfOk};
+ghost use Rattle.state_search.specs.Searches.{IsCut, IsWithin};
+ghost use Rattle.explored_runs.specs.Answering.{Expands};
+ghost use Rattle.explored_runs.specs.RunSearches.{FindsRuns};
+
+use crate::call_search::{search_calls, search_calls_part};
+use crate::crew::after_each;
+use crate::limits::taken_by;
+use crate::outcome::Outcome;
+use crate::runs::Runs;
+use crate::sorting::{Sorted, sort_out};
+use crate::visited::VisitedState;
+use faults::Fault;
+use state_search::{Bounds, Found, Moves, Part, PartSearched, Reached, Searched};
+use std::alloc::AllocError;
+use std::thread::Threads;
+
+/// Some states of a level, and what was found of them, in their order.
+#[derive(Drop)]
+pub struct Heard<'a> {
+    pub states: &'a [Found<Vec<u32>>],
+    /// For each, how many calls were tried that do something.
+    pub calls: Vec<usize>,
+    /// The outcomes of those that are over.
+    pub over: Vec<Outcome>,
+    /// The states, where they are visited.
+    pub visited: Vec<VisitedState>,
+    /// How many states of the level are left.
+    pub left: usize,
+}
+
+/// Who is told what a search of runs finds.
+pub trait Listener {
+    ghost use denote.Param.Send.{IsSync};
+
+    /// Why the search ends before its end.
+    type Fault: From<Fault> + From<AllocError> + Drop;
+
+    /// Is told of the next states. Threads may share the work.
+    fn hear<R: Threads + Sync>(&mut self, rt: &R, heard: Heard<'_>) -> Result<(), Self::Fault>
+        requires { IsSync R.row };
+
+    /// Is told that a level is done.
+    fn end_level(&mut self) -> Result<(), Self::Fault>;
+}
+
+/// A search of runs by so many threads.
+struct RunSearch<'r, 'p, 'l, L> {
+    runs: &'r Runs<'p>,
+    threads: usize,
+    listener: &'l mut L,
+}
+
+impl<L> Drop for RunSearch<'_, '_, '_, L> {
+    fn drop(self) {
+        let RunSearch {
+            runs: _,
+            threads: _,
+            listener: _,
+        } = self;
+    }
+}
+
+/// The first of some states, at most so many but at least one, and the others.
+fn parted(states: &[Found<Vec<u32>>], most: usize) -> (&[Found<Vec<u32>>], &[Found<Vec<u32>>])
+    requires { 0 < length states.now }
+    ensures all { result.0.now ++ result.1.now ≡ states.now }
+    ensures fewer { length result.1.now < length states.now }
+{
+    states.split_at(most.max(1).min(states.len()))
+}
+
+impl<'p, L: Listener> Moves for RunSearch<'_, 'p, '_, L> {
+    type State = Vec<u32>;
+
+    type Fault = L::Fault;
+
+    type Space = Runs<'p>;
+
+    ghost space = { λ s. s.runs.now };
+
+    ghost begins = { λ r first. first.state.items ≡ [] };
+
+    ghost expands = { λ r level next. Expands r level next };
+
+    fn first(&mut self) -> Result<Reached<Vec<u32>>, L::Fault> {
+        Ok(self.runs.first()?)
+    }
+
+    fn expand<R: Threads + Sync>(
+        &mut self,
+        rt: &R,
+        level: &[Found<Vec<u32>>],
+    ) -> Result<Vec<Reached<Vec<u32>>>, L::Fault> {
+        let mut next = Vec::new(self.runs.alloc);
+        let mut rest = level;
+        while !rest.is_empty() {
+            let (states, later) = parted(rest, taken_by(self.threads));
+            let afters = after_each(rt, self.runs, self.threads, states)?;
+            let Sorted {
+                mut reached,
+                over,
+                visited,
+                calls,
+            } = sort_out(self.runs.alloc, afters)?;
+            next.append(&mut reached)?;
+            self.listener.hear(
+                rt,
+                Heard {
+                    states,
+                    calls,
+                    over,
+                    visited,
+                    left: later.len(),
+                },
+            )?;
+            rest = later;
+        }
+        self.listener.end_level()?;
+        Ok(next)
+    }
+}
+
+/// Searches all runs, by so many threads. If keys told the states apart, it found the end of each complete order of no more calls than its
+/// depth. And if it left no state, it found the outcomes of every run.
+pub fn search_runs<R: Threads + Sync, L: Listener>(
+    rt: &R,
+    runs: &Runs<'_>,
+    threads: usize,
+    listener: &mut L,
+    bounds: Bounds,
+) -> Result<Searched<Vec<u32>>, L::Fault>
+    ensures finds { IfOk result (λ found. FindsRuns runs.now found.gone_on.items found.left.items found.depth) }
+    ensures cut { IfOk result (λ found. IsCut found.gone_on.items found.left.items found.depth bounds) }
+    ensures within { IfOk result (λ found. IsWithin found.gone_on.items found.depth bounds) }
+{
+    let mut search = RunSearch {
+        runs,
+        threads,
+        listener,
+    };
+    match search_calls(rt, runs.alloc, &mut search, bounds) {
+        Ok(searched) => Ok(searched),
+        Err(why) => Err(why),
+    }
+}
+
+/// Searches a part of all runs.
+pub fn search_runs_part<R: Threads + Sync, L: Listener>(
+    rt: &R,
+    runs: &Runs<'_>,
+    threads: usize,
+    listener: &mut L,
+    bounds: Bounds,
+    part: Part,
+) -> Result<PartSearched<Vec<u32>>, L::Fault>
+    ensures cut { IfOk result (λ found. IsCut found.searched.gone_on.items found.searched.left.items found.searched.depth bounds) }
+    ensures within { IfOk result (λ found. IsWithin found.searched.gone_on.items found.searched.depth bounds) }
+{
+    let mut search = RunSearch {
+        runs,
+        threads,
+        listener,
+    };
+    search_calls_part(rt, runs.alloc, &mut search, bounds, part)
+}
