@@ -1,6 +1,4 @@
-pub mod Answering
 pub mod Booting
 pub mod CallSearches
 pub mod Owning
 pub mod Replays
-pub mod RunSearches

@@ -1,8 +1,8 @@
 //! All outcomes of programs, whatever the order of their calls.
 //!
-//! Read `explore_orders` first. `runs` says to `state_search` which runs a call leads to: `programs` are booted, `replay` does the calls of a
-//! run on a core by `core_calls`, `private` finds calls that may be tried alone, and `state_key` tells runs apart. A `crew` of threads shares each level of
-//! the search. What a run comes to is an `outcome`, kept once by `findings`. `call_search` says of any such search what it finds. A part of
+//! Read `explore_orders` first. `runs` says which runs a call leads to: `programs` are booted, `replay` does the calls of a run on a core by
+//! `core_calls`, `private` finds calls that may be tried alone, and `state_key` tells runs apart. `run_search` has `state_search` search them: a `crew` of
+//! threads shares each level, and whoever listens is told what was found, as `sorting` sorts it out. What a run comes to is an `outcome`, kept once by `findings`. `call_search` says of any such search what it finds. A part of
 //! a search prints a `part_file`, and `merge_parts` puts those of all parts together. `explore_states` hands out the states themselves.
 #![tactic(auto)]
 

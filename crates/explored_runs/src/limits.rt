@@ -1,5 +1,5 @@
 //! How far a search goes, and by how many threads.
-ghost use Rattle.std.specs.Prelude.{◌≡◌, unwrap_or};
+ghost use Rattle.std.specs.Prelude.{◌≡◌, ◌<◌, unwrap_or};
 
 use state_search::{Bounds, Part};
 use std::thread;
@@ -55,6 +55,8 @@ impl Limits {
 }
 
 /// How many states of a level so many threads take together.
-pub fn taken_by(threads: usize) -> usize {
+pub fn taken_by(threads: usize) -> usize
+    ensures { 0 < result }
+{
     threads.saturating_mul(TAKEN).max(1)
 }

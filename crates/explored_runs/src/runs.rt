@@ -1,7 +1,6 @@
 //! Runs as a search sees them. A run is the processes whose calls lead to it, and is replayed from its boot.
-ghost use Rattle.std.specs.Prelude.{◌≡◌, ◌∷◌, ◌++◌, [], List, true, false, IfOk};
-ghost use Rattle.disk_model.specs.declared.change.NamedFile.{NamedFile};
-ghost use Rattle.explored_runs.specs.Answering.{ComesTo, IsNext, StandOn, boot_in};
+ghost use Rattle.std.specs.Prelude.{◌≡◌, ◌∷◌, ◌++◌, [], true, IfOk};
+ghost use Rattle.explored_runs.specs.Booting.{AreFilesOf, boot_of};
 ghost use Rattle.explored_runs.specs.Replays.{IsTried, is_idle, seen_after_calls, seen_of};
 
 use crate::outcome::{Outcome, outcome_of};
@@ -97,8 +96,9 @@ fn alone(alloc: Global, reached: Reached<Vec<u32>>) -> Result<Vec<Reached<Vec<u3
 impl Runs<'_> {
     /// Boots, and makes these calls.
     pub fn replay(&self, calls: &[u32]) -> Result<Replay, Fault>
-        ensures run { IfOk result (λ replay. ComesTo self.now calls.now (seen_of replay.core)) }
-        ensures files { IfOk result (λ replay. StandOn self.now replay.core.boot.files) }
+        ensures seen { IfOk result (λ replay. seen_of replay.core ≡
+            seen_after_calls self.now.instructions (boot_of self.now.programs.now.given.items self.now.programs.now.tapes.items replay.core.boot.files) calls.now) }
+        ensures files { IfOk result (λ replay. AreFilesOf self.now.programs.now.disk replay.core.boot.files) }
         ensures limit { IfOk result (λ replay. replay.limit ≡ self.now.instructions) }
     {
         let core = self.programs.boot(self.alloc)?;
@@ -145,10 +145,7 @@ impl Runs<'_> {
     }
 
     /// What is found of the run of these calls.
-    pub fn after(&self, calls: &[u32]) -> Result<After, Fault>
-        ensures { IfOk result (λ after. (files : List NamedFile) → StandOn self.now files
-            → IsNext self.now.instructions (seen_after_calls self.now.instructions (boot_in self.now files) calls.now) calls.now after.next) }
-    {
+    pub fn after(&self, calls: &[u32]) -> Result<After, Fault> {
         let replay = self.replay(calls)?;
         Ok(After {
             visited: self.visited(calls, &replay)?,
@@ -157,14 +154,7 @@ impl Runs<'_> {
     }
 
     /// A replay of these calls: this one, unless a call was made in it.
-    fn unused(&self, calls: &[u32], replay: Replay, is_used: bool) -> Result<Replay, Fault>
-        requires run { is_used ≡ false → ComesTo self.now calls.now (seen_of replay.core) }
-        requires files { is_used ≡ false → StandOn self.now replay.core.boot.files }
-        requires limit { is_used ≡ false → replay.limit ≡ self.now.instructions }
-        ensures run { IfOk result (λ replay. ComesTo self.now calls.now (seen_of replay.core)) }
-        ensures files { IfOk result (λ replay. StandOn self.now replay.core.boot.files) }
-        ensures limit { IfOk result (λ replay. replay.limit ≡ self.now.instructions) }
-    {
+    fn unused(&self, calls: &[u32], replay: Replay, is_used: bool) -> Result<Replay, Fault> {
         if is_used {
             self.replay(calls)
         } else {
@@ -174,12 +164,7 @@ impl Runs<'_> {
 
     /// The runs after one more call: after a private one alone, if there is one, or after each that does something. It is over where none
     /// does.
-    fn next(&self, calls: &[u32], replay: Replay) -> Result<Next, Fault>
-        requires run { ComesTo self.now calls.now (seen_of replay.core) }
-        requires files { StandOn self.now replay.core.boot.files }
-        requires limit { replay.limit ≡ self.now.instructions }
-        ensures { IfOk result (IsNext self.now.instructions (seen_of replay.core) calls.now) }
-    {
+    fn next(&self, calls: &[u32], replay: Replay) -> Result<Next, Fault> {
         let mut replay = replay;
         let mut reached = Vec::new(self.alloc);
         let mut is_used = false;
