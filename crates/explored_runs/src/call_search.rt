@@ -1,10 +1,10 @@
 //! A search of the calls of programs. What it is said to find is the joint between `state_search`, which knows no calls, and `order_laws`,
 //! which knows no keys.
 ghost use Rattle.std.specs.Prelude.{IfOk};
-ghost use Rattle.state_search.specs.Searches.{IsCut};
+ghost use Rattle.state_search.specs.Searches.{IsCut, IsWithin};
 ghost use Rattle.explored_runs.specs.CallSearches.{FindsByKeys, FindsItsPart};
 
-use state_search::{Moves, Part, PartSearched, Searched, search, search_part};
+use state_search::{Bounds, Moves, Part, PartSearched, Searched, search, search_part};
 use std::alloc::Global;
 use std::thread::Threads;
 
@@ -17,12 +17,13 @@ pub fn search_calls<M: Moves, R: Threads + Sync>(
     rt: &R,
     alloc: Global,
     moves: &mut M,
-    most: u64,
+    bounds: Bounds,
 ) -> Result<Searched<M::State>, M::Fault>
-    ensures finds { IfOk result (λ found. FindsByKeys M.begins M.expands found.gone_on.items found.left.items found.depth) }
-    ensures cut { IfOk result (λ found. IsCut found.gone_on.items found.left.items found.depth most) }
+    ensures finds { IfOk result (λ found. FindsByKeys (M.begins (M.space moves.old)) (M.expands (M.space moves.old)) found.gone_on.items found.left.items found.depth) }
+    ensures cut { IfOk result (λ found. IsCut found.gone_on.items found.left.items found.depth bounds) }
+    ensures within { IfOk result (λ found. IsWithin found.gone_on.items found.depth bounds) }
 {
-    match search(rt, alloc, moves, most) {
+    match search(rt, alloc, moves, bounds) {
         Ok(searched) => Ok(searched),
         Err(why) => Err(why),
     }
@@ -34,13 +35,14 @@ pub fn search_calls_part<M: Moves, R: Threads + Sync>(
     rt: &R,
     alloc: Global,
     moves: &mut M,
-    most: u64,
+    bounds: Bounds,
     part: Part,
 ) -> Result<PartSearched<M::State>, M::Fault>
-    ensures finds { IfOk result (λ found. FindsItsPart M.begins M.expands found.searched.gone_on.items found.searched.left.items found.others.items found.searched.depth) }
-    ensures cut { IfOk result (λ found. IsCut found.searched.gone_on.items found.searched.left.items found.searched.depth most) }
+    ensures finds { IfOk result (λ found. FindsItsPart (M.begins (M.space moves.old)) (M.expands (M.space moves.old)) found.searched.gone_on.items found.searched.left.items found.others.items found.searched.depth) }
+    ensures cut { IfOk result (λ found. IsCut found.searched.gone_on.items found.searched.left.items found.searched.depth bounds) }
+    ensures within { IfOk result (λ found. IsWithin found.searched.gone_on.items found.searched.depth bounds) }
 {
-    match search_part(rt, alloc, moves, most, part) {
+    match search_part(rt, alloc, moves, bounds, part) {
         Ok(found) => Ok(found),
         Err(why) => Err(why),
     }

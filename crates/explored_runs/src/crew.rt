@@ -1,53 +1,36 @@
 //! A level is shared among threads, and what they answer is put together in its order.
+ghost use Rattle.std.specs.Prelude.{◌<◌};
+
 use crate::runs::{After, Runs};
 use faults::Fault;
 use state_search::Found;
-use std::alloc::{AllocError, Global};
+use std::alloc::Global;
 use std::thread;
 use std::thread::Threads;
 
-/// What one thread answers of its share: what comes after the states of some places, the last place first, and the fault that cut it short.
-#[derive(Drop)]
-struct Share {
-    answers: Vec<After>,
-    fault: Option<Fault>,
-}
-
-/// What comes after the states at the places `first`, `first + step`, and so on, up to the first fault.
-fn answer_each(
-    runs: &Runs<'_>,
-    level: &[Found<Vec<u32>>],
-    first: usize,
-    step: usize,
-    answers: &mut Vec<After>,
-) -> Result<(), Fault> {
-    let mut place = first;
-    for _ in 0..level.len() {
-        let Some(found) = level.get(place) else {
-            break;
-        };
-        answers.push(runs.after(found.state.as_slice())?)?;
-        place = place.saturating_add(step);
+/// What comes after each state of a share, in its order. The fault is that of the first state that has one.
+fn share_of(runs: &Runs<'_>, share: &[Found<Vec<u32>>]) -> Result<Vec<After>, Fault> {
+    let mut afters = Vec::with_capacity(runs.alloc, share.len())?;
+    for found in share {
+        afters.push(runs.after(found.state.as_slice())?)?;
     }
-    Ok(())
+    Ok(afters)
 }
 
-fn share_of(runs: &Runs<'_>, level: &[Found<Vec<u32>>], first: usize, step: usize) -> Share {
-    let mut answers = Vec::new(runs.alloc);
-    let fault = answer_each(runs, level, first, step, &mut answers).err();
-    answers.reverse();
-    Share { answers, fault }
-}
-
-impl Share {
-    /// What comes after the next state of the share.
-    fn take(&mut self) -> Result<After, Fault> {
-        match (self.answers.pop(), self.fault.take()) {
-            (Some(after), _) => Ok(after),
-            (None, Some(fault)) => Err(fault),
-            (None, None) => Err(Fault::OutOfMemory),
-        }
+/// What all shares found, one after the other. The fault is that of the first share that has one.
+fn joined(alloc: Global, shares: Vec<Result<Vec<After>, Fault>>) -> Result<Vec<After>, Fault> {
+    let mut all = Vec::new(alloc);
+    for share in shares {
+        all.append(&mut share?)?;
     }
+    Ok(all)
+}
+
+/// How many states each of so many threads has of so many.
+fn share_size(states: usize, threads: usize) -> usize
+    ensures { 0 < result }
+{
+    states.div_ceil(threads.max(1)).max(1)
 }
 
 /// What comes after each state of a level, in its order. So many threads share it. The fault is that of the first state that has one.
@@ -57,18 +40,15 @@ pub fn after_each<R: Threads + Sync>(
     threads: usize,
     level: &[Found<Vec<u32>>],
 ) -> Result<Vec<After>, Fault> {
-    let threads = threads.min(level.len()).max(1);
-    let mut shares: Vec<Share> = thread::map_indices(
+    let size = share_size(level.len(), threads);
+    let shares = thread::map_chunks(
         rt,
         runs.alloc,
-        threads,
-        &|first| { share_of(runs, level, first, threads) },
+        level,
+        size,
+        &|_start: usize, share: &[Found<Vec<u32>>]| -> Result<Vec<After>, Fault> {
+            share_of(runs, share)
+        },
     )?;
-    let mut all = Vec::with_capacity(runs.alloc, level.len())?;
-    for place in 0..level.len() {
-        if let Some(share) = shares.get_mut(place % threads) {
-            all.push(share.take()?)?;
-        }
-    }
-    Ok(all)
+    joined(runs.alloc, shares)
 }

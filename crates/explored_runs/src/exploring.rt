@@ -1,88 +1,57 @@
 //! All outcomes of programs: the search, and what it prints.
-ghost use Rattle.std.specs.Prelude.{⊤};
-
-use crate::call_search::{search_calls, search_calls_part};
-use crate::crew::after_each;
 use crate::findings::{Findings, Wanted, print_outcome};
+use crate::limits::Limits;
 use crate::outcome::Outcome;
 use crate::part_file::{PartHead, write_end, write_head, write_outcome, write_state};
 use crate::programs::Programs;
-use crate::runs::{After, Runs};
+use crate::run_search::{Heard, Listener, search_runs, search_runs_part};
+use crate::runs::Runs;
 use crate::saved::{script_of, setup_lines};
 use crate::summed::Summed;
 use crate::totals::Totals;
 use faults::{Fault, at_path};
 use progress::{Progress, ProgressCount};
 use scripts::{Setup, write_setup};
-use state_search::{Found, Key, Moves, Part, Reached};
+use state_search::{Found, Key};
 use std::alloc::{AllocError, Global};
 use std::io::Write;
 use std::rt::Files;
 use std::thread::Threads;
-use std::{fs, io, thread};
+use std::{fs, io};
 
-/// How many states each thread takes of a level before what they came to is put together.
-const TAKEN: usize = 64;
-
-/// How far is searched, and by how many threads.
-#[derive(Clone, Copy)]
-pub struct Limits {
-    /// How many instructions a process runs at most to its next call.
-    pub instructions: u32,
-    /// No further level is searched where more states were found.
-    pub states: u64,
-    /// None: by as many as the host has processors for.
-    pub threads: Option<u32>,
-    /// Which part is searched; None: the whole.
-    pub part: Option<Part>,
-}
-
-/// A search of runs, which prints their outcomes.
-struct Exploring<'r, 'p, 'w, 'o, 'e, R, O, E> {
+/// Prints the outcomes of a search, each once.
+struct Printer<'r, 'p, 'w, 'o, 'e, R, O, E> {
     rt: &'r R,
     runs: &'r Runs<'p>,
-    threads: usize,
-    part: Option<Part>,
+    /// Whether a part is searched.
+    is_part: bool,
     wanted: Wanted<'w>,
     /// The set-up lines with which the script of an outcome begins.
     setup: Vec<u8>,
     findings: Findings<'w>,
+    /// The outcomes of a level, before it is done.
+    over: Vec<Outcome>,
     out: Summed<'o, O>,
     progress: Progress<'e, E>,
-    /// How many states it went on from in the levels before.
-    before: u64,
+    /// How many states it was told of.
+    done: u64,
 }
 
-impl<R, O, E> Drop for Exploring<'_, '_, '_, '_, '_, R, O, E> {
+impl<R, O, E> Drop for Printer<'_, '_, '_, '_, '_, R, O, E> {
     fn drop(self) {
-        let Exploring {
+        let Printer {
             rt: _,
             runs: _,
-            threads: _,
-            part: _,
+            is_part: _,
             wanted: _,
             setup: _setup,
             findings: _findings,
+            over: _over,
             out: _out,
             progress: _progress,
-            before: _,
+            done: _,
         } = self;
     }
-}
-
-/// Sorts out the runs that go on, and the outcomes of those that are over.
-fn sort_out(
-    answers: Vec<After>,
-    next: &mut Vec<Reached<Vec<u32>>>,
-    over: &mut Vec<Outcome>,
-) -> Result<(), AllocError> {
-    for after in answers {
-        match after {
-            After::More(mut reached) => next.append(&mut reached)?,
-            After::Over(outcome) => over.push(outcome)?,
-        }
-    }
-    Ok(())
 }
 
 /// The path of the script of an outcome.
@@ -90,18 +59,7 @@ fn script_path(alloc: Global, folder: &str, number: u64) -> Result<String, Alloc
     format!(in alloc; "{folder}/outcome-{number}.script")
 }
 
-/// How many threads search.
-fn threads_of<R: Threads>(rt: &R, wanted: Option<u32>) -> usize {
-    match wanted {
-        Some(threads) => threads as usize,
-        None => match thread::available_parallelism(rt) {
-            Ok(processors) => processors.get(),
-            Err(_) => 4,
-        },
-    }
-}
-
-impl<R: Files + AllocGlobal, O: Write, E: Write> Exploring<'_, '_, '_, '_, '_, R, O, E> {
+impl<R: Files + AllocGlobal, O: Write, E: Write> Printer<'_, '_, '_, '_, '_, R, O, E> {
     /// Writes the script of an outcome, if it is wanted.
     fn save(&mut self, number: u64, calls: &[u32]) -> Result<(), Fault> {
         let Some(folder) = self.wanted.folder else {
@@ -117,9 +75,10 @@ impl<R: Files + AllocGlobal, O: Write, E: Write> Exploring<'_, '_, '_, '_, '_, R
 
     /// Prints an outcome that is new.
     fn print(&mut self, number: u64, outcome: &Outcome) -> io::Result<()> {
-        match self.part {
-            Some(_) => write_outcome(outcome, &mut self.out),
-            None => print_outcome(number, outcome, &mut self.out),
+        if self.is_part {
+            write_outcome(outcome, &mut self.out)
+        } else {
+            print_outcome(number, outcome, &mut self.out)
         }
     }
 
@@ -133,40 +92,61 @@ impl<R: Files + AllocGlobal, O: Write, E: Write> Exploring<'_, '_, '_, '_, '_, R
         self.findings.judge(number, outcome)
     }
 
-    /// Tells how far it has come, where so many states of a level are done. What was printed goes out before it.
-    fn tell(&mut self, done: u64, level: u64) {
+    /// Tells how far it has come, where so many states of a level are left. What was printed goes out before it.
+    fn tell(&mut self, left: usize) {
         if self.progress.is_due(self.rt) {
             let _ = self.out.flush();
             self.progress.tell(ProgressCount {
                 what: "states",
-                done: self.before.saturating_add(done),
-                left: level.saturating_sub(done),
+                done: self.done,
+                left: left as u64,
                 part: "level",
             });
         }
     }
 
-    /// Prints the outcomes of a level that are new, in their order.
-    fn find_all(&mut self, mut outcomes: Vec<Outcome>) -> Result<(), Fault> {
-        outcomes.sort()?;
-        for outcome in &outcomes {
-            self.find(outcome)?;
-        }
-        Ok(())
-    }
-
-    /// Prints the states of a level from which a part went on.
-    fn note(&mut self, level: &[Found<Vec<u32>>], answers: &[After]) -> io::Result<()> {
-        if self.part.is_some() {
-            for (found, after) in level.iter().zip(answers.iter()) {
-                write_state(found, after.calls(), &mut self.out)?;
+    /// Prints the states from which a part went on.
+    fn note(&mut self, states: &[Found<Vec<u32>>], calls: &[usize]) -> io::Result<()> {
+        if self.is_part {
+            for (found, calls) in states.iter().zip(calls.iter()) {
+                write_state(found, *calls, &mut self.out)?;
             }
         }
         Ok(())
     }
 }
 
-impl<R: Files + AllocGlobal + Threads + Sync, O: Write, E: Write> Exploring<
+impl<R: Files + AllocGlobal, O: Write, E: Write> Listener for Printer<'_, '_, '_, '_, '_, R, O, E> {
+    type Fault = Fault;
+
+    fn hear<T: Threads + Sync>(&mut self, _rt: &T, heard: Heard<'_>) -> Result<(), Fault> {
+        let Heard {
+            states,
+            calls,
+            mut over,
+            visited: _visited,
+            left,
+        } = heard;
+        self.note(states, calls.as_slice())?;
+        self.over.append(&mut over)?;
+        self.done = self.done.saturating_add(states.len() as u64);
+        self.tell(left);
+        Ok(())
+    }
+
+    /// Prints the outcomes of the level that are new, in their order.
+    fn end_level(&mut self) -> Result<(), Fault> {
+        let mut outcomes = Vec::new(self.rt.alloc());
+        outcomes.append(&mut self.over)?;
+        outcomes.sort()?;
+        for outcome in &outcomes {
+            self.find(outcome)?;
+        }
+        Ok(())
+    }
+}
+
+impl<R: Files + AllocGlobal + Threads + Sync, O: Write, E: Write> Printer<
     '_,
     '_,
     '_,
@@ -177,56 +157,29 @@ impl<R: Files + AllocGlobal + Threads + Sync, O: Write, E: Write> Exploring<
     E,
 > {
     /// Searches all, and prints how many states, calls and outcomes there were. Refused where not all was explored.
-    fn search_whole(&mut self, most: u64) -> Result<(), Fault> {
-        let rt = self.rt;
-        let searched = search_calls(rt, rt.alloc(), self, most)?;
+    fn search_whole(&mut self, limits: Limits) -> Result<(), Fault> {
+        let (rt, runs) = (self.rt, self.runs);
+        let searched = search_runs(rt, runs, limits.threads(rt), self, limits.bounds())?;
         let totals = Totals::of(&searched);
         totals.print(&self.findings, &mut self.out)?;
         totals.test_all(&self.findings)
     }
 
     /// Searches a part, whose file is printed. Refused where the part did not explore all that is its own.
-    fn search_part(&mut self, head: PartHead) -> Result<(), Fault> {
+    fn search_part(&mut self, limits: Limits, head: PartHead) -> Result<(), Fault> {
         write_head(head, &mut self.out)?;
-        let rt = self.rt;
-        let found = search_calls_part(rt, rt.alloc(), self, head.states, head.part)?;
+        let (rt, runs) = (self.rt, self.runs);
+        let found = search_runs_part(
+            rt,
+            runs,
+            limits.threads(rt),
+            self,
+            limits.bounds(),
+            head.part,
+        )?;
         let totals = Totals::of(&found.searched);
         write_end(found.searched.left.as_slice(), totals.depth, &mut self.out)?;
         totals.test_all(&self.findings)
-    }
-}
-
-impl<R: Files + AllocGlobal, O: Write, E: Write> Moves for Exploring<'_, '_, '_, '_, '_, R, O, E> {
-    type State = Vec<u32>;
-
-    type Fault = Fault;
-
-    ghost begins = { λ _. ⊤ };
-
-    ghost expands = { λ _ _. ⊤ };
-
-    fn first(&mut self) -> Result<Reached<Vec<u32>>, Fault> {
-        self.runs.first()
-    }
-
-    fn expand<T: Threads + Sync>(
-        &mut self,
-        rt: &T,
-        level: &[Found<Vec<u32>>],
-    ) -> Result<Vec<Reached<Vec<u32>>>, Fault> {
-        let mut next = Vec::new(self.rt.alloc());
-        let mut over = Vec::new(self.rt.alloc());
-        let mut done = 0u64;
-        for taken in level.chunks(self.threads.saturating_mul(TAKEN).max(1)) {
-            let answers = after_each(rt, self.runs, self.threads, taken)?;
-            self.note(taken, answers.as_slice())?;
-            sort_out(answers, &mut next, &mut over)?;
-            done = done.saturating_add(taken.len() as u64);
-            self.tell(done, level.len() as u64);
-        }
-        self.before = self.before.saturating_add(done);
-        self.find_all(over)?;
-        Ok(next)
     }
 }
 
@@ -260,26 +213,30 @@ pub fn explore_orders<R: Files + AllocGlobal + Threads + Sync, O: Write, E: Writ
         alloc,
         programs: &programs,
         instructions: limits.instructions,
+        visits: false,
     };
-    let mut exploring = Exploring {
+    let mut printer = Printer {
         rt,
         runs: &runs,
-        threads: threads_of(rt, limits.threads),
-        part: limits.part,
+        is_part: limits.part.is_some(),
         wanted,
         setup: lines,
         findings,
+        over: Vec::new(alloc),
         out: Summed::new(out),
         progress: Progress::new(rt, err, wanted.progress),
-        before: 0,
+        done: 0,
     };
     match limits.part {
-        Some(part) => exploring.search_part(PartHead {
-            programs: sum_of(alloc, setup)?,
-            instructions: u64::from(limits.instructions),
-            states: limits.states,
-            part,
-        }),
-        None => exploring.search_whole(limits.states),
+        Some(part) => printer.search_part(
+            limits,
+            PartHead {
+                programs: sum_of(alloc, setup)?,
+                instructions: u64::from(limits.instructions),
+                states: limits.states,
+                part,
+            },
+        ),
+        None => printer.search_whole(limits),
     }
 }

@@ -1,9 +1,9 @@
 //! All outcomes of programs, whatever the order of their calls.
 //!
-//! Read `explore_orders` first. `runs` says to `state_search` which runs a call leads to: `programs` are booted, `replay` does the calls of a
-//! run on a core by `core_calls`, `private` finds calls that may be tried alone, and `state_key` tells runs apart. A `crew` of threads shares each level of
-//! the search. What a run comes to is an `outcome`, kept once by `findings`. `call_search` says of any such search what it finds. A part of
-//! a search prints a `part_file`, and `merge_parts` puts those of all parts together.
+//! Read `explore_orders` first. `runs` says which runs a call leads to: `programs` are booted, `replay` does the calls of a run on a core by
+//! `core_calls`, `private` finds calls that may be tried alone, and `state_key` tells runs apart. `run_search` has `state_search` search them: a `crew` of
+//! threads shares each level, and whoever listens is told what was found, as `sorting` sorts it out. What a run comes to is an `outcome`, kept once by `findings`. `call_search` says of any such search what it finds. A part of
+//! a search prints a `part_file`, and `merge_parts` puts those of all parts together. `explore_states` hands out the states themselves.
 #![tactic(auto)]
 
 mod call_search;
@@ -14,6 +14,7 @@ mod expectations;
 mod exploring;
 mod findings;
 mod levels;
+mod limits;
 mod merging;
 mod outcome;
 mod part_fault;
@@ -23,16 +24,24 @@ mod pipe_texts;
 mod private;
 mod programs;
 mod replay;
+mod run_search;
 mod runs;
 mod saved;
+mod sorting;
 mod state_digest;
 mod state_key;
 mod summed;
 mod totals;
+mod visited;
+mod visiting;
 
 pub use call_search::{search_calls, search_calls_part};
-pub use exploring::{Limits, explore_orders};
+pub use exploring::explore_orders;
 pub use findings::Wanted;
+pub use limits::{Limits, MOST_CALLS};
 pub use merging::merge_parts;
 pub use part_fault::MergeFault;
 pub use state_search::Part;
+pub use totals::Totals;
+pub use visited::VisitedState;
+pub use visiting::{ExploredStates, StateTaker, explore_states, lines_of_calls};

@@ -1,4 +1,6 @@
 //! What a run comes to where no process can go on, as one line.
+ghost use Rattle.std.specs.Prelude.{◌≡◌, IfOk};
+
 use crate::ends::{End, end_of};
 use crate::replay::Replay;
 use crash_outcomes::{are_listed, outcome_of as files_of};
@@ -49,7 +51,9 @@ fn push_ends(replay: &mut Replay, text: &mut String) -> Result<bool, Fault> {
 
 /// The outcome of a run in which no process can go on: `ends`, and how each process stands; `shown`, and what each terminal has; and
 /// the files as `bench crashes` prints them.
-pub fn outcome_of(alloc: Global, calls: &[u32], replay: &mut Replay) -> Result<Outcome, Fault> {
+pub fn outcome_of(alloc: Global, calls: &[u32], replay: &mut Replay) -> Result<Outcome, Fault>
+    ensures { IfOk result (λ outcome. outcome.calls.items ≡ calls.now) }
+{
     let mut text = String::from_str(alloc, "ends")?;
     let runs_on = push_ends(replay, &mut text)?;
     text.push_str(" shown")?;

@@ -7,25 +7,34 @@ use crate::outcome::{Outcome, outcome_of};
 use crate::programs::Programs;
 use crate::replay::{Called, Replay};
 use crate::state_key::key_of;
+use crate::visited::VisitedState;
 use faults::Fault;
 use state_search::Reached;
 use std::alloc::{AllocError, Global};
 
-/// What comes after a run.
+/// The runs that come after a run.
 #[derive(Drop)]
-pub enum After {
-    /// Others, by one call more.
+pub enum Next {
+    /// Those of one call more.
     More(Vec<Reached<Vec<u32>>>),
     /// None: no process can go on.
     Over(Outcome),
 }
 
-impl After {
+/// What was found of a run.
+#[derive(Drop)]
+pub struct After {
+    /// Its state, where states are visited.
+    pub visited: Option<VisitedState>,
+    pub next: Next,
+}
+
+impl Next {
     /// How many calls were tried that do something.
     pub fn calls(&self) -> usize {
         match self {
-            After::More(reached) => reached.len(),
-            After::Over(_) => 0,
+            Next::More(reached) => reached.len(),
+            Next::Over(_) => 0,
         }
     }
 }
@@ -37,6 +46,8 @@ pub struct Runs<'a> {
     pub programs: &'a Programs,
     /// How many instructions a process runs at most to its next call.
     pub instructions: u32,
+    /// Whether states are visited.
+    pub visits: bool,
 }
 
 /// What came of trying a call after a run.
@@ -113,6 +124,7 @@ impl Runs<'_> {
     fn try_call(&self, replay: &mut Replay, calls: &[u32], pid: u32) -> Result<Tried, Fault>
         ensures tried { IfOk result (IsTried replay.old.limit (seen_of replay.old.core) calls.now pid) }
         ensures idle { IfOk result (λ tried. is_idle tried ≡ true → seen_of replay.new.core ≡ seen_of replay.old.core) }
+        ensures boot { IfOk result (λ tried. is_idle tried ≡ true → replay.new.core.boot ≡ replay.old.core.boot) }
         ensures limit { IfOk result (λ tried. is_idle tried ≡ true → replay.new.limit ≡ replay.old.limit) }
     {
         match replay.call(pid)? {
@@ -124,28 +136,53 @@ impl Runs<'_> {
         }
     }
 
-    /// The runs after one more call: after a private one alone, if there is one, or after each that can be made.
+    /// The state of a run that was replayed, where states are visited.
+    fn visited(&self, calls: &[u32], replay: &Replay) -> Result<Option<VisitedState>, Fault> {
+        if !self.visits {
+            return Ok(None);
+        }
+        Ok(Some(VisitedState::of(self.alloc, calls, replay)?))
+    }
+
+    /// What is found of the run of these calls.
     pub fn after(&self, calls: &[u32]) -> Result<After, Fault> {
+        let replay = self.replay(calls)?;
+        Ok(After {
+            visited: self.visited(calls, &replay)?,
+            next: self.next(calls, replay)?,
+        })
+    }
+
+    /// A replay of these calls: this one, unless a call was made in it.
+    fn unused(&self, calls: &[u32], replay: Replay, is_used: bool) -> Result<Replay, Fault> {
+        if is_used {
+            self.replay(calls)
+        } else {
+            Ok(replay)
+        }
+    }
+
+    /// The runs after one more call: after a private one alone, if there is one, or after each that does something. It is over where none
+    /// does.
+    fn next(&self, calls: &[u32], replay: Replay) -> Result<Next, Fault> {
+        let mut replay = replay;
         let mut reached = Vec::new(self.alloc);
-        let mut replay = self.replay(calls)?;
         let mut is_used = false;
         for place in 0..replay.last_process() {
-            if is_used {
-                replay = self.replay(calls)?;
-                is_used = false;
-            }
+            replay = self.unused(calls, replay, is_used)?;
+            is_used = false;
             match self.try_call(&mut replay, calls, place + 1)? {
                 Tried::Idle => {}
                 Tried::Made(run) => {
                     reached.push(run)?;
                     is_used = true;
                 }
-                Tried::Private(run) => return Ok(After::More(alone(self.alloc, run)?)),
+                Tried::Private(run) => return Ok(Next::More(alone(self.alloc, run)?)),
             }
         }
         if !reached.is_empty() {
-            return Ok(After::More(reached));
+            return Ok(Next::More(reached));
         }
-        Ok(After::Over(outcome_of(self.alloc, calls, &mut replay)?))
+        Ok(Next::Over(outcome_of(self.alloc, calls, &mut replay)?))
     }
 }

@@ -4,7 +4,7 @@ use faults::Fault;
 use kernel::Event;
 use kernel_model::TERMINALS;
 use scripts::{EventText, Setup, write_setup};
-use std::alloc::Global;
+use std::alloc::{AllocError, Global};
 use std::io;
 use std::io::Write;
 
@@ -15,20 +15,22 @@ pub fn setup_lines(alloc: Global, setup: &Setup) -> io::Result<Vec<u8>> {
     Ok(lines)
 }
 
-/// Appends a line for each event.
-fn push_events(text: &mut Vec<u8>, events: &[Event]) -> io::Result<()> {
+/// A line for each event.
+pub fn lines_of(alloc: Global, events: &[Event]) -> Result<String, AllocError> {
+    let mut lines = String::new(alloc);
     for event in events {
         let event = EventText(*event);
-        writeln!(text, "{event}")?;
+        writeln!(lines, "{event}")?;
     }
-    Ok(())
+    Ok(lines)
 }
 
 /// A script that does a run, has those that wait try their calls again, commits all, and asks what was shown. The set-up lines come
 /// first.
 pub fn script_of(alloc: Global, setup: &[u8], replay: &Replay) -> Result<Vec<u8>, Fault> {
     let mut text = Vec::from_slice(alloc, setup)?;
-    push_events(&mut text, replay.core.history())?;
+    let lines = lines_of(alloc, replay.core.history())?;
+    text.extend_from_slice(lines.as_bytes())?;
     for pid in 1..=replay.last_process() {
         if replay.core.tables().processes.status(pid).is_none() {
             writeln!(text, "enter {pid}")?;

@@ -1,15 +1,17 @@
 -- How a search begins, goes on by a level, and leaves states to other parts.
-use Rattle.std.proofs.Common.{arith, ◌≡◌, ◌⊎◌, ◌∙◌, ◌++◌, ◌∷◌, [], ◌+◌, ◌<◌, ◌≤◌, ℕ, List, true, false, sym, ap, subst, inl, inr}
+use Rattle.std.proofs.Common.{arith, ◌≡◌, ◌⊎◌, ◌∙◌, ◌++◌, ◌∷◌, [], ◌+◌, ◌<◌, ◌≤◌, ℕ, List, length, true, false, sym, ap, subst, inl, inr}
 use Rattle.std.specs.List.{Contains}
 use Rattle.std.specs.HashSet.{HashSet}
+use Rattle.std.proofs.lemmas.List.{length-append}
 use Rattle.std.proofs.lemmas.List.Elements.{Contains-append_left, Contains-append_right, Contains-append_cases, Contains-push, Contains-push_cases}
-use Rattle.state_search.specs.Adding.{AreAdded, HasOne}
-use Rattle.state_search.specs.Going.{IsGoing, IsParted}
+use Rattle.state_search.specs.Adding.{AreAdded, one_if}
+use Rattle.state_search.specs.Going.{AreLeft, IsGoing, IsParted}
 use Rattle.state_search.specs.Keys.{has}
-use Rattle.state_search.specs.Searches.{Answer, Came, ComesOf, HasKey, IsFirst, WentOn}
+use Rattle.state_search.specs.Searches.{Answer, Came, ComesOf, HasKey, IsFirst, WentOn, times}
 use Rattle.state_search.specs.declared.key.Key.{Key}
 use Rattle.state_search.specs.declared.moves.Found.{Found}
 use Rattle.state_search.specs.declared.moves.Reached.{Reached}
+use Rattle.state_search.proofs.Counting.{at-most-once, one-of, times-append}
 
 -- nothing is in an empty list
 none-in : {X : Type 0} (x : X) → Contains [] x → ⊥
@@ -25,16 +27,12 @@ only-one {X = X} x y is = by-cases (Contains-push_cases [] x y is)
 
 module _ {S Z : Type 0} (begins : Reached S → Type 0) (expands : List (Found S) → List (Reached S) → Type 0) (none known : HashSet Key Z) (r : Reached S)
     (left : List (Found S)) (empty : (k : Key) → has none k ≡ false) (adds : AreAdded none known (r ∷ []) left 0) (is_first : begins r) where
-  one-first : (k : Key) → has known k ≡ true → HasOne left k
-  one-first k now = by-cases (adds.known k now)
-    where
-      by-cases : (has none k ≡ true) ⊎ HasOne left k → HasOne left k
-      by-cases (inl was) = let no = sym was ∙ empty k in absurd cc
-      by-cases (inr one) = one
+  knows-first : (k : Key) → times k left ≡ one_if (has known k)
+  knows-first k = let counts = adds.counts k in let none-there = ap one_if (empty k) in omega (arith, counts, none-there)
 
   first-found : HasKey left r.key 0
   first-found =
-      let one = one-first r.key (adds.all r (Contains-push [] r)) in
+      let one = one-of r.key left (knows-first r.key ∙ ap one_if (adds.all r (Contains-push [] r))) in
       let at = adds.near one.one one.is_found in
       record { one = one.one; is_found = one.is_found; same_key = one.same_key; near = omega (arith, at) }
 
@@ -66,8 +64,9 @@ module _ {S Z : Type 0} (begins : Reached S → Type 0) (expands : List (Found S
         passed = λ f is. absurd (none-in f is);
         comes = λ f is. inl (first-only f is);
       };
+      once = λ k. at-most-once (times k left) (has known k) (knows-first k);
     };
-    knows = one-first;
+    knows = knows-first;
   }
 
 module _ {S : Type 0} (others xs ys : List (Found S)) where
@@ -103,12 +102,14 @@ module _ {S Z : Type 0} (begins : Reached S → Type 0) (expands : List (Found S
   abbrev all : List (Found S)
   all = others ++ (before ++ added)
 
-  knows-now : (k : Key) → has new k ≡ true → HasOne all k
-  knows-now k now = by-cases (adds.known k now)
-    where
-      by-cases : (has old k ≡ true) ⊎ HasOne added k → HasOne all k
-      by-cases (inl was) = let one = going.knows k was in record { one = one.one; is_found = still-there others before added one.one one.is_found; same_key = one.same_key }
-      by-cases (inr one) = record { one = one.one; is_found = now-there others before added one.one one.is_found; same_key = one.same_key }
+  knows-now : (k : Key) → times k all ≡ one_if (has new k)
+  knows-now k =
+      let counts = adds.counts k in
+      let knew = going.knows k in
+      let then-all = times-append k others before in
+      let now-all = times-append k others (before ++ added) in
+      let more = times-append k before added in
+      omega (arith, counts, knew, then-all, now-all, more)
 
   abbrev was : ComesOf going.searched.first going.searched.answers gone left others depth
   was = going.searched.found
@@ -153,7 +154,7 @@ module _ {S Z : Type 0} (begins : Reached S → Type 0) (expands : List (Found S
   -- each state that was answered for the level is found
   each-now : (f : Found S) → Contains left f → (r : Reached S) → Contains next r → HasKey all r.key (f.moves + 1)
   each-now f is r among =
-      let one = knows-now r.key (adds.all r among) in
+      let one = one-of r.key all (knows-now r.key ∙ ap one_if (adds.all r among)) in
       let near = near-now one.one one.is_found in
       let at = was.farthest f is in
       record { one = one.one; is_found = one.is_found; same_key = one.same_key; near = omega (arith, near, at) }
@@ -206,6 +207,7 @@ module _ {S Z : Type 0} (begins : Reached S → Type 0) (expands : List (Found S
         passed = passed-now;
         comes = comes-now;
       };
+      once = λ k. at-most-once (times k all) (has new k) (knows-now k);
     };
     knows = knows-now;
   }
@@ -249,6 +251,17 @@ module _ {S Z : Type 0} (begins : Reached S → Type 0) (expands : List (Found S
   in-shared : (k : Key) (most : ℕ) → HasKey found k most → HasKey shared k most
   in-shared k most h = record { one = h.one; is_found = to-shared h.one h.is_found; same_key = h.same_key; near = h.near }
 
+  knows-shared : (k : Key) → times k shared ≡ one_if (has known k)
+  knows-shared k =
+      let knew = going.knows k in
+      let counts = parted.counts k in
+      let all = times-append k others (gone ++ left) in
+      let here = times-append k gone left in
+      let now-all = times-append k (others ++ more) (gone ++ own) in
+      let passed = times-append k others more in
+      let kept = times-append k gone own in
+      omega (arith, knew, counts, all, here, now-all, passed, kept)
+
   passed-shared : (f : Found S) → Contains (others ++ more) f → f.moves ≤ depth
   passed-shared f is = elim (Contains-append_cases others more f is) as (λ _. f.moves ≤ depth) [
     | inl other ↦ going.searched.found.passed f other
@@ -256,7 +269,7 @@ module _ {S Z : Type 0} (begins : Reached S → Type 0) (expands : List (Found S
   ]
 
   -- a part leaves those of the last level that are not its own
-  pub leaves-others : IsGoing begins expands known gone own (others ++ more) depth
+  leaves-others : IsGoing begins expands known gone own (others ++ more) depth
   leaves-others = record {
     searched = record {
       first = going.searched.first;
@@ -273,6 +286,25 @@ module _ {S Z : Type 0} (begins : Reached S → Type 0) (expands : List (Found S
         passed = passed-shared;
         comes = λ f is. going.searched.found.comes f (from-shared f is);
       };
+      once = λ k. at-most-once (times k shared) (has known k) (knows-shared k);
     };
-    knows = λ k now. let one = going.knows k now in record { one = one.one; is_found = to-shared one.one one.is_found; same_key = one.same_key };
+    knows = knows-shared;
   }
+
+module _ {S Z : Type 0} (begins : Reached S → Type 0) (expands : List (Found S) → List (Reached S) → Type 0) (known known_now : HashSet Key Z)
+    (gone left others gone_now own others_now : List (Found S)) (depth : ℕ) where
+  -- so it goes on where states were left
+  pub goes-on-left : IsGoing begins expands known gone left others depth → AreLeft known known_now gone left others gone_now own others_now
+      → IsGoing begins expands known_now gone_now own others_now depth
+  goes-on-left going are =
+      let all = leaves-others begins expands known gone left others own are.more depth going are.parted in
+      rw (are.known, are.gone, are.others_are) all
+
+-- a part goes on from no more states than there may be
+pub within-left : {S Z : Type 0} (old new : HashSet Key Z) (gone left others gone_now own others_now gone_then : List (Found S)) (most : ℕ)
+    → AreLeft old new gone left others gone_now own others_now → gone_then ≡ gone_now ++ own → length gone + length left ≤ most → length gone_then ≤ most
+within-left old new gone left others gone_now own others_now gone_then most are joined few =
+    let all = ap length joined ∙ length-append gone_now own in
+    let same = ap length are.gone in
+    let size = are.parted.size in
+    omega (arith, all, same, size, few)

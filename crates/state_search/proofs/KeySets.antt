@@ -1,5 +1,6 @@
 -- Keys, and sets of them.
-use Rattle.std.proofs.Common.{arith, ◌≡◌, ◌⊎◌, ◌∙◌, true, false, Bool, cond, refl, sym, ap, inl, inr}
+use Rattle.std.proofs.Common.{arith, ◌≡◌, Bool, true, false, cond, refl}
+use Rattle.std.specs.Prelude.{◌||◌}
 use Rattle.std.proofs.lemmas.Grind.{common_steps}
 use Rattle.state_search.specs.declared.key.Key.{Key}
 use Rattle.state_search.specs.Keys.{is_same}
@@ -11,15 +12,11 @@ key_of_parts a b high low = λ i. record { high = high i; low = low i }
 pub same-keys : (a b : Key) → is_same a b ≡ true → a ≡ b
 same-keys a b same = key_of_parts a b (grind (arith, common_steps, same)) (grind (arith, common_steps, same))
 
--- a set to which a key is added keeps the others
-pub kept-added : (test old new : Bool) → new ≡ cond test true old → old ≡ true → new ≡ true
-kept-added true old new sets was = sets
-kept-added false old new sets was = sets ∙ was
+-- and a key is the same as itself
+pub same-itself : (a : Key) → is_same a a ≡ true
+same-itself a = grind (arith, common_steps)
 
--- it has no other key than before but that one
-pub only-added : (a k : Key) (old new : Bool) → new ≡ cond (is_same a k) true old → new ≡ true → (old ≡ true) ⊎ (a ≡ k)
-only-added a k old new sets now = by-test (is_same a k) refl
-  where
-    by-test : (test : Bool) → is_same a k ≡ test → (old ≡ true) ⊎ (a ≡ k)
-    by-test true is = inr (same-keys a k is)
-    by-test false is = inl (sym (sets ∙ ap (λ (t : Bool). cond t true old) is) ∙ now)
+-- a set to which a key is added has it beside the others
+pub set-added : (test old new : Bool) → new ≡ cond test true old → new ≡ (test || old)
+set-added true old new sets = sets
+set-added false old new sets = sets

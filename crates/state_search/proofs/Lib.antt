@@ -1,4 +1,5 @@
 mod KeySets
+mod Counting
 mod Parting
 mod AddingStates
 mod GoingOn

@@ -1,10 +1,14 @@
 -- States are shared out one by one.
-use Rattle.std.proofs.Common.{◌≡◌, ◌⊎◌, ◌++◌, ◌∷◌, [], ◌==◌, ℕ, List, Bool, true, false, ap, refl, subst, inl, inr}
+use Rattle.std.proofs.Common.{arith, ◌≡◌, ◌⊎◌, ◌++◌, ◌∷◌, [], ◌==◌, ◌+◌, ℕ, List, Bool, true, false, ap, refl, subst, inl, inr}
 use Rattle.std.specs.Prelude.{if◌then◌else◌}
 use Rattle.std.specs.List.{Contains}
+use Rattle.std.proofs.lemmas.List.{length-append}
 use Rattle.std.proofs.lemmas.List.Elements.{Contains-append_left, Contains-push, Contains-push_cases}
 use Rattle.state_search.specs.Going.{IsParted, next_turn, own_from}
+use Rattle.state_search.specs.Searches.{times}
+use Rattle.state_search.specs.declared.key.Key.{Key}
 use Rattle.state_search.specs.declared.moves.Found.{Found}
+use Rattle.state_search.proofs.Counting.{times-append}
 
 module _ {S : Type 0} (all own others : List (Found S)) (f : Found S) (parted : IsParted all own others) where
   -- one of a longer list, of which the rest is among these
@@ -29,6 +33,8 @@ module _ {S : Type 0} (all own others : List (Found S)) (f : Found S) (parted : 
     ];
     own = among own parted.own;
     others = λ g is. still g (parted.others g is);
+    counts = λ k. let was = parted.counts k in let now = times-append k all (f ∷ []) in let mine = times-append k own (f ∷ []) in omega (arith, was, now, mine);
+    size = let was = parted.size in let now = length-append all (f ∷ []) in let mine = length-append own (f ∷ []) in omega (arith, was, now, mine);
   }
 
   -- it is another's
@@ -43,7 +49,19 @@ module _ {S : Type 0} (all own others : List (Found S)) (f : Found S) (parted : 
     ];
     own = λ g is. still g (parted.own g is);
     others = among others parted.others;
+    counts = λ k. let was = parted.counts k in let now = times-append k all (f ∷ []) in let theirs = times-append k others (f ∷ []) in omega (arith, was, now, theirs);
+    size = let was = parted.size in let now = length-append all (f ∷ []) in let theirs = length-append others (f ∷ []) in omega (arith, was, now, theirs);
   }
+
+-- all states may be one's own
+pub all-own : {S : Type 0} (all : List (Found S)) → IsParted all all []
+all-own all = record {
+  each = λ g is. inl is;
+  own = λ g is. is;
+  others = λ g is. absurd (let within = is.1 in let no : ⊥ = omega (arith, within) in no);
+  counts = λ k. omega arith;
+  size = omega arith;
+}
 
 -- whose turn it is after these states
 abbrev pub turn_at : {S : Type 0} → ℕ → ℕ → List (Found S) → ℕ

@@ -1,9 +1,16 @@
 -- When a search has left nothing out.
-use Rattle.std.specs.Prelude.{◌≡◌, ℕ, ◌+◌, ◌-◌, ◌^◌, ◌<◌, ◌≤◌, ◌⊎◌, List, [], ◌++◌, length}
+use Rattle.std.specs.Prelude.{◌≡◌, ℕ, suc, ◌+◌, ◌<◌, ◌≤◌, ◌⊎◌, if◌then◌else◌, List, [], ◌∷◌, ◌++◌, length}
 use Rattle.std.specs.List.{Contains}
+use Rattle.state_search.specs.Keys.{is_same}
+use Rattle.state_search.specs.declared.bounds.Bounds.{Bounds}
 use Rattle.state_search.specs.declared.key.Key.{Key}
 use Rattle.state_search.specs.declared.moves.Found.{Found}
 use Rattle.state_search.specs.declared.moves.Reached.{Reached}
+
+-- how many states have this key
+abbrev pub times : {S : Type 0} → Key → List (Found S) → ℕ
+times k [] = 0
+times k (f ∷ fs) = if is_same f.key k then suc (times k fs) else times k fs
 
 -- the states that are next to a level were asked for, and these were answered
 pub record Answer (S : Type 0) : Type 0 where
@@ -57,18 +64,33 @@ pub record ComesOf {S : Type 0} (first : Reached S) (answers : List (Answer S)) 
   pub comes : (f : Found S) → Contains (others ++ (gone_on ++ left)) f → IsFirst first f ⊎ Came answers f
 
 -- A part of a search to depth `depth`: the first state was asked for, and those next to each level from which it went on, and the states that were
--- found are what comes of this. Those of `others` it left to other parts.
+-- found are what comes of this, each once. Those of `others` it left to other parts.
 pub record IsPart {S : Type 0} (begins : Reached S → Type 0) (expands : List (Found S) → List (Reached S) → Type 0) (gone_on left others : List (Found S)) (depth : ℕ) : Type 0 where
   pub first : Reached S
   pub is_first : begins first
   pub answers : List (Answer S)
   pub are_answers : (a : Answer S) → Contains answers a → expands a.level a.next
   pub found : ComesOf first answers gone_on left others depth
+  pub once : (k : Key) → times k (others ++ (gone_on ++ left)) ≤ 1
 
 -- A search to depth `depth` is its only part.
 abbrev pub IsSearched : {S : Type 0} → (Reached S → Type 0) → (List (Found S) → List (Reached S) → Type 0) → List (Found S) → List (Found S) → ℕ → Type 0
 IsSearched begins expands gone_on left depth = IsPart begins expands gone_on left [] depth
 
--- Why a search ends: it left none, or found more than it may, or can count no more moves.
-abbrev pub IsCut : {S : Type 0} → List (Found S) → List (Found S) → ℕ → ℕ → Type 0
-IsCut gone_on left depth most = (left ≡ []) ⊎ ((most < length gone_on + length left) ⊎ (depth ≡ 2 ^ 64 - 1))
+-- how many states were found
+abbrev pub count_of : {S : Type 0} → List (Found S) → List (Found S) → ℕ
+count_of gone_on left = length gone_on + length left
+
+-- Why a search ends: it left none, or found more than it may, or came as deep as it may.
+abbrev pub IsCut : {S : Type 0} → List (Found S) → List (Found S) → ℕ → Bounds → Type 0
+IsCut gone_on left depth b = (left ≡ []) ⊎ ((b.states < count_of gone_on left) ⊎ (b.moves ≤ depth))
+
+-- It goes on where it found no more than it may, and is not as deep.
+pub record MayGoOn {S : Type 0} (gone_on left : List (Found S)) (depth : ℕ) (b : Bounds) : Type 0 where
+  pub states : count_of gone_on left ≤ b.states
+  pub moves : depth < b.moves
+
+-- It went no farther than it may.
+pub record IsWithin {S : Type 0} (gone_on : List (Found S)) (depth : ℕ) (b : Bounds) : Type 0 where
+  pub states : length gone_on ≤ b.states
+  pub moves : depth ≤ b.moves

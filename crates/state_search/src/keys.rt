@@ -1,8 +1,8 @@
 //! The keys of the states that were found.
-ghost use Rattle.std.specs.Prelude.{◌≡◌, ◌⊎◌, true, not, IfOk, OnOk};
+ghost use Rattle.std.specs.Prelude.{◌≡◌, ◌||◌, not, IfOk, OnOk};
 ghost use Rattle.std.specs.HashSet.{IsEmpty};
 ghost use Rattle.state_search.specs.declared.key.Key.{Key};
-ghost use Rattle.state_search.specs.Keys.{has};
+ghost use Rattle.state_search.specs.Keys.{has, is_same};
 
 use crate::key::Key;
 use std::alloc::{AllocError, Global};
@@ -32,9 +32,7 @@ impl Keys {
     /// Adds a key that is not there yet, and says whether it was new.
     pub fn add(&mut self, key: Key) -> Result<bool, AllocError>
         ensures new { IfOk result (λ is_new. is_new ≡ not (has self.old.set key)) }
-        ensures there { OnOk result (has self.new.set key ≡ true) }
-        ensures kept { OnOk result ((k : Key) → has self.old.set k ≡ true → has self.new.set k ≡ true) }
-        ensures others { OnOk result ((k : Key) → has self.new.set k ≡ true → (has self.old.set k ≡ true) ⊎ (key ≡ k)) }
+        ensures added { OnOk result ((k : Key) → has self.new.set k ≡ (is_same key k || has self.old.set k)) }
     {
         let is_new = self.set.insert(key)?;
         Ok(is_new)

@@ -4,12 +4,14 @@
 //! all, up to a bound, and `search_part` does a part of it. It knows nothing of kernels.
 #![tactic(auto)]
 
+mod bounds;
 mod key;
 mod keys;
 mod moves;
 mod parts;
 mod searching;
 
+pub use bounds::Bounds;
 pub use key::Key;
 pub use moves::{Found, Moves, Reached};
 pub use parts::Part;

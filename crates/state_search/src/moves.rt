@@ -1,5 +1,5 @@
 //! What a search is of: states, and which are next to others.
-ghost use Rattle.std.specs.Prelude.{IfOk};
+ghost use Rattle.std.specs.Prelude.{◌≡◌, IfOk};
 
 use crate::key::Key;
 use std::alloc::AllocError;
@@ -32,15 +32,21 @@ pub trait Moves {
     /// Why a search ends before its end.
     type Fault: From<AllocError> + Drop;
 
+    /// Of what the states are. It stays the same.
+    type Space;
+
+    ghost space: { Self → Self.Space };
+
     // What may be answered for the first state.
-    ghost begins: { Reached Self.State → Type 0 };
+    ghost begins: { Self.Space → Reached Self.State → Type 0 };
 
     // What may be answered for the states that are next to those of a level.
-    ghost expands: { List (Found Self.State) → List (Reached Self.State) → Type 0 };
+    ghost expands: { Self.Space → List (Found Self.State) → List (Reached Self.State) → Type 0 };
 
     /// The first state.
     fn first(&mut self) -> Result<Reached<Self::State>, Self::Fault>
-        ensures { IfOk result begins };
+        ensures begins { IfOk result (λ first. begins (space self.old) first) }
+        ensures space { space self.new ≡ space self.old };
 
     /// All states that are next to some of a level, all of which were found by as many moves, in an order that depends on these alone.
     /// Threads may share the work.
@@ -50,5 +56,6 @@ pub trait Moves {
         level: &[Found<Self::State>],
     ) -> Result<Vec<Reached<Self::State>>, Self::Fault>
         requires { IsSync R.row }
-        ensures { IfOk result (λ next. expands level.now next.items) };
+        ensures expands { IfOk result (λ next. expands (space self.old) level.now next.items) }
+        ensures space { space self.new ≡ space self.old };
 }

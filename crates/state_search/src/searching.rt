@@ -1,10 +1,11 @@
 //! The search, and parts of it.
-ghost use Rattle.std.specs.Prelude.{◌≡◌, ◌∷◌, [], ◌<◌, ◌+◌, ◌^◌, ◌-◌, IfOk};
+ghost use Rattle.std.specs.Prelude.{◌≡◌, ◌∷◌, ◌++◌, [], ◌<◌, ◌+◌, ◌^◌, ◌-◌, nat_lt, IfOk};
 ghost use Rattle.std.specs.Bool.{OnFalse, OnTrue};
 ghost use Rattle.state_search.specs.Adding.{AreAdded};
-ghost use Rattle.state_search.specs.Going.{IsGoing};
-ghost use Rattle.state_search.specs.Searches.{IsCut, IsPart, IsSearched};
+ghost use Rattle.state_search.specs.Going.{AreLeft, IsGoing};
+ghost use Rattle.state_search.specs.Searches.{IsCut, IsPart, IsSearched, IsWithin, MayGoOn};
 
+use crate::bounds::Bounds;
 use crate::keys::Keys;
 use crate::moves::{Found, Moves, Reached};
 use crate::parts::{Part, Parted};
@@ -59,6 +60,16 @@ fn add_all<S: Drop>(
     Ok(added)
 }
 
+/// Whether so many and so many are more than these.
+fn is_more(some: usize, others: usize, most: u64) -> bool
+    ensures { result ≡ nat_lt most (some + others) }
+{
+    match (some as u64).checked_add(others as u64) {
+        Some(all) => all > most,
+        None => true,
+    }
+}
+
 fn alone<S: Drop>(alloc: Global, first: Reached<S>) -> Result<Vec<Reached<S>>, AllocError>
     ensures { IfOk result (λ reached. reached.items ≡ first ∷ []) }
 {
@@ -70,7 +81,9 @@ fn alone<S: Drop>(alloc: Global, first: Reached<S>) -> Result<Vec<Reached<S>>, A
 /// The first state alone.
 fn begin<M: Moves>(alloc: Global, moves: &mut M) -> Result<Going<M::State>, M::Fault>
     ensures alone { IfOk result (λ going. going.others.items ≡ []) }
-    ensures going { IfOk result (λ going. IsGoing M.begins M.expands going.known.set going.searched.gone_on.items going.searched.left.items going.others.items going.searched.depth) }
+    ensures here { IfOk result (λ going. (going.searched.depth ≡ 0) × (going.searched.gone_on.items ≡ [])) }
+    ensures space { M.space moves.new ≡ M.space moves.old }
+    ensures going { IfOk result (λ going. IsGoing (M.begins (M.space moves.old)) (M.expands (M.space moves.old)) going.known.set going.searched.gone_on.items going.searched.left.items going.others.items going.searched.depth) }
 {
     let reached = alone(alloc, moves.first()?)?;
     let mut known = Keys::new(alloc);
@@ -89,14 +102,15 @@ fn begin<M: Moves>(alloc: Global, moves: &mut M) -> Result<Going<M::State>, M::F
 }
 
 impl<S: Drop> Going<S> {
-    /// Whether no state is left, or as many are found as there may be.
-    fn is_done(&self, most: u64) -> bool
-        ensures room { OnFalse result (self.now.searched.depth < 2 ^ 64 - 1) }
-        ensures done { OnTrue result (IsCut self.now.searched.gone_on.items self.now.searched.left.items self.now.searched.depth most) }
+    /// Whether no state is left, or more are found than there may be, or they are as deep as they may be.
+    fn is_done(&self, bounds: Bounds) -> bool
+        ensures more { OnFalse result (MayGoOn self.now.searched.gone_on.items self.now.searched.left.items self.now.searched.depth bounds) }
+        ensures done { OnTrue result (IsCut self.now.searched.gone_on.items self.now.searched.left.items self.now.searched.depth bounds) }
     {
         let searched = &self.searched;
-        let found = (searched.gone_on.len() as u64).saturating_add(searched.left.len() as u64);
-        searched.left.is_empty() || found > most || searched.depth == u64::MAX
+        searched.left.is_empty()
+            || is_more(searched.gone_on.len(), searched.left.len(), bounds.states)
+            || searched.depth >= bounds.moves
     }
 
     /// Whether the last level is the one whose states are shared out among parts.
@@ -106,13 +120,9 @@ impl<S: Drop> Going<S> {
 }
 
 /// Where the last level is shared out, those of it that are not the part's own are left to the others.
-fn leave_others<M: Moves>(
-    alloc: Global,
-    going: Going<M::State>,
-    part: Part,
-) -> Result<Going<M::State>, AllocError>
-    requires { IsGoing M.begins M.expands going.known.set going.searched.gone_on.items going.searched.left.items going.others.items going.searched.depth }
-    ensures going { IfOk result (λ next. IsGoing M.begins M.expands next.known.set next.searched.gone_on.items next.searched.left.items next.others.items next.searched.depth) }
+fn leave_others<S: Drop>(alloc: Global, going: Going<S>, part: Part) -> Result<Going<S>, AllocError>
+    ensures left { IfOk result (λ next. AreLeft going.known.set next.known.set going.searched.gone_on.items going.searched.left.items going.others.items
+        next.searched.gone_on.items next.searched.left.items next.others.items) }
     ensures depth { IfOk result (λ next. next.searched.depth ≡ going.searched.depth) }
 {
     if !going.is_shared_out(part) {
@@ -155,10 +165,12 @@ fn go_on<M: Moves, R: Threads + Sync>(
     going: Going<M::State>,
 ) -> Result<Going<M::State>, M::Fault>
     requires room { going.searched.depth < 2 ^ 64 - 1 }
-    requires going { IsGoing M.begins M.expands going.known.set going.searched.gone_on.items going.searched.left.items going.others.items going.searched.depth }
+    requires going { IsGoing (M.begins (M.space moves.old)) (M.expands (M.space moves.old)) going.known.set going.searched.gone_on.items going.searched.left.items going.others.items going.searched.depth }
     ensures alone { IfOk result (λ next. next.others.items ≡ going.others.items) }
     ensures deeper { IfOk result (λ next. next.searched.depth ≡ going.searched.depth + 1) }
-    ensures going { IfOk result (λ next. IsGoing M.begins M.expands next.known.set next.searched.gone_on.items next.searched.left.items next.others.items next.searched.depth) }
+    ensures gone { IfOk result (λ next. next.searched.gone_on.items ≡ going.searched.gone_on.items ++ going.searched.left.items) }
+    ensures space { M.space moves.new ≡ M.space moves.old }
+    ensures going { IfOk result (λ next. IsGoing (M.begins (M.space moves.old)) (M.expands (M.space moves.old)) next.known.set next.searched.gone_on.items next.searched.left.items next.others.items next.searched.depth) }
 {
     let Going {
         mut known,
@@ -188,19 +200,20 @@ fn go_on<M: Moves, R: Threads + Sync>(
     })
 }
 
-/// Searches all states that moves lead to from the first one, those nearest to it first, each once. It goes on level by level while no
-/// more states are found than `most`, and leaves the last level where they are: then it is cut.
+/// Searches all states that moves lead to from the first one, those nearest to it first, each once. It goes on level by level within the
+/// bounds, and leaves the last level where it comes to one of them: then it is cut.
 pub fn search<M: Moves, R: Threads + Sync>(
     rt: &R,
     alloc: Global,
     moves: &mut M,
-    most: u64,
+    bounds: Bounds,
 ) -> Result<Searched<M::State>, M::Fault>
-    ensures searched { IfOk result (λ found. IsSearched M.begins M.expands found.gone_on.items found.left.items found.depth) }
-    ensures cut { IfOk result (λ found. IsCut found.gone_on.items found.left.items found.depth most) }
+    ensures searched { IfOk result (λ found. IsSearched (M.begins (M.space moves.old)) (M.expands (M.space moves.old)) found.gone_on.items found.left.items found.depth) }
+    ensures cut { IfOk result (λ found. IsCut found.gone_on.items found.left.items found.depth bounds) }
+    ensures within { IfOk result (λ found. IsWithin found.gone_on.items found.depth bounds) }
 {
     let mut going = begin(alloc, moves)?;
-    while !going.is_done(most) {
+    while !going.is_done(bounds) {
         going = go_on(rt, alloc, moves, going)?;
     }
     let Going {
@@ -218,15 +231,16 @@ pub fn search_part<M: Moves, R: Threads + Sync>(
     rt: &R,
     alloc: Global,
     moves: &mut M,
-    most: u64,
+    bounds: Bounds,
     part: Part,
 ) -> Result<PartSearched<M::State>, M::Fault>
-    ensures part { IfOk result (λ found. IsPart M.begins M.expands found.searched.gone_on.items found.searched.left.items found.others.items found.searched.depth) }
-    ensures cut { IfOk result (λ found. IsCut found.searched.gone_on.items found.searched.left.items found.searched.depth most) }
+    ensures part { IfOk result (λ found. IsPart (M.begins (M.space moves.old)) (M.expands (M.space moves.old)) found.searched.gone_on.items found.searched.left.items found.others.items found.searched.depth) }
+    ensures cut { IfOk result (λ found. IsCut found.searched.gone_on.items found.searched.left.items found.searched.depth bounds) }
+    ensures within { IfOk result (λ found. IsWithin found.searched.gone_on.items found.searched.depth bounds) }
 {
     let mut going = begin(alloc, moves)?;
-    while !going.is_done(most) {
-        going = leave_others::<M>(alloc, going, part)?;
+    while !going.is_done(bounds) {
+        going = leave_others(alloc, going, part)?;
         going = go_on(rt, alloc, moves, going)?;
     }
     let Going {
