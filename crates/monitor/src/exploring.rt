@@ -64,6 +64,7 @@ fn limits_of(options: &ExploreOptions<'_>) -> Limits {
     Limits {
         instructions: options.instructions,
         states: options.states,
+        calls: Some(u64::MAX),
         threads: options.jobs,
         part,
     }
