@@ -113,9 +113,9 @@ if [ "$(at_work 1 endless endless endless)" -ne 1 ] || [ "$(at_work 3 endless en
     exit 1
 fi
 
-# By one worker a loan's length shows in what is written first: the child, which counts first, is lent first.
+# By one worker a time slice's length shows in what is written first: the parent, which counts, goes on within its slice.
 "$bench" asm "$here/crates/test_runner/data/forked.s" forked >said
-for row in 1000000:CP 10:PC; do
+for row in 1000000:PC 10:CP; do
     ran --workers 1 --quantum "${row%:*}" forked
     if [ "$(tr -d "\n" <printed)" != "${row#*:}" ]; then
         echo "by quantum ${row%:*} forked printed $(cat printed)" >&2
