@@ -16,8 +16,8 @@ trap 'rm -rf "$work"' EXIT
 names=
 for source in "$here"/examples/*.s; do
     name=$(basename "$source" .s)
-    # A parent and its child write a letter each, in any order.
-    [ "$name" != letters ] || continue
+    # What these print depends on the order of their calls.
+    case $name in letters | race | lost-update | no-wait | philosophers | in-order) continue ;; esac
     "$bench" asm "$source" "$work/$name" >"$work/said"
     names="$names $name"
 done
