@@ -9,23 +9,19 @@ use Rattle.formats.specs.Fields.{signed}
 use Rattle.formats.specs.Meaning.{Means}
 use Rattle.formats.specs.declared.instr.Instr.{Instr}
 use Rattle.formats.specs.declared.instr.Instr.TheVariants as instr
-use Rattle.formats.specs.declared.operators.ImmediateOperator.TheVariants as immediate
+use Rattle.formats.specs.declared.operators.Arithmetic.{Arithmetic}
+use Rattle.formats.specs.declared.operators.Arithmetic.TheVariants.{Sub, Slt, Sltu}
+use Rattle.formats.specs.declared.operators.ImmediateOperator.{ImmediateOperator}
+use Rattle.formats.specs.declared.operators.ImmediateOperator.TheVariants.{Addi, Sltiu, Xori}
+use Rattle.formats.specs.declared.operators.ShiftOperator.{ShiftOperator}
+use Rattle.formats.specs.declared.operators.LoadOperator.{LoadOperator}
+use Rattle.formats.specs.declared.operators.Condition.{Condition}
+use Rattle.formats.proofs.Fits.{register-funct3, register-funct7, immediate-funct3, shift-funct3, shift-funct7, load-funct3, store-funct3, branch-funct3}
+use Rattle.memory_model.specs.declared.access.Width.{Width}
 use Rattle.asm_statements.specs.Encoding.{complement, word_of}
-use Rattle.asm_statements.specs.Expansion.{immediate_of, branch_offset_of, jump_offset_of, upper_of, amount_of, modulo_word, low_part, high_part, register_instr, immediate_instr, shift_instr, load_instr, store_instr, branch_instr, upper_instr, unary_instr, plain_instr, link_register, long_expansion, fitting_expansion, li_expansion, la_expansion, written, expansion_of}
+use Rattle.asm_statements.specs.Expansion.{immediate_of, branch_offset_of, jump_offset_of, upper_of, amount_of, modulo_word, low_part, high_part, upper_instr, unary_instr, plain_instr, link_register, long_expansion, fitting_expansion, li_expansion, la_expansion, written, expansion_of}
 use Rattle.asm_statements.specs.declared.mnemonic.Mnemonic.{Mnemonic}
 use Rattle.asm_statements.specs.declared.mnemonic.Mnemonic.TheVariants as form
-use Rattle.asm_statements.specs.declared.mnemonic.RegisterOp.{RegisterOp}
-use Rattle.asm_statements.specs.declared.mnemonic.RegisterOp.TheVariants.{Add, Sub, Sll, Slt, Sltu, Xor, Srl, Sra, Or, And, Mul, Mulh, Mulhsu, Mulhu, Div, Divu, Rem, Remu}
-use Rattle.asm_statements.specs.declared.mnemonic.ImmediateOp.{ImmediateOp}
-use Rattle.asm_statements.specs.declared.mnemonic.ImmediateOp.TheVariants.{Addi, Slti, Sltiu, Xori, Ori, Andi}
-use Rattle.asm_statements.specs.declared.mnemonic.ShiftOp.{ShiftOp}
-use Rattle.asm_statements.specs.declared.mnemonic.ShiftOp.TheVariants.{Slli, Srli, Srai}
-use Rattle.asm_statements.specs.declared.mnemonic.LoadOp.{LoadOp}
-use Rattle.asm_statements.specs.declared.mnemonic.LoadOp.TheVariants.{Jalr, Lb, Lh, Lw, Lbu, Lhu}
-use Rattle.asm_statements.specs.declared.mnemonic.StoreOp.{StoreOp}
-use Rattle.asm_statements.specs.declared.mnemonic.StoreOp.TheVariants.{Sb, Sh, Sw}
-use Rattle.asm_statements.specs.declared.mnemonic.BranchOp.{BranchOp}
-use Rattle.asm_statements.specs.declared.mnemonic.BranchOp.TheVariants.{Beq, Bne, Blt, Bge, Bltu, Bgeu}
 use Rattle.asm_statements.specs.declared.mnemonic.UpperOp.{UpperOp}
 use Rattle.asm_statements.specs.declared.mnemonic.UpperOp.TheVariants.{Lui, Auipc}
 use Rattle.asm_statements.specs.declared.mnemonic.Link.{Link}
@@ -96,65 +92,33 @@ low_held u = signed_held (u % 2 ^ 12) (omega arith)
 abbrev IsMeant : Instr → Type 0
 IsMeant i = Means (word_of i) i
 
-register-meant : (op : RegisterOp) (rd rs1 rs2 : ℕ) → rd < 32 → rs1 < 32 → rs2 < 32 → IsMeant (register_instr op rd rs1 rs2)
+register-meant : (op : Arithmetic) (rd rs1 rs2 : ℕ) → rd < 32 → rs1 < 32 → rs2 < 32 → IsMeant (instr.Register op rd rs1 rs2)
 unfolding word_of
-register-meant Add rd rs1 rs2 a b c = r_word_means 0b000 0b0000000 rd rs1 rs2 (omega arith) (omega arith) a b c
-register-meant Sub rd rs1 rs2 a b c = r_word_means 0b000 0b0100000 rd rs1 rs2 (omega arith) (omega arith) a b c
-register-meant Sll rd rs1 rs2 a b c = r_word_means 0b001 0b0000000 rd rs1 rs2 (omega arith) (omega arith) a b c
-register-meant Slt rd rs1 rs2 a b c = r_word_means 0b010 0b0000000 rd rs1 rs2 (omega arith) (omega arith) a b c
-register-meant Sltu rd rs1 rs2 a b c = r_word_means 0b011 0b0000000 rd rs1 rs2 (omega arith) (omega arith) a b c
-register-meant Xor rd rs1 rs2 a b c = r_word_means 0b100 0b0000000 rd rs1 rs2 (omega arith) (omega arith) a b c
-register-meant Srl rd rs1 rs2 a b c = r_word_means 0b101 0b0000000 rd rs1 rs2 (omega arith) (omega arith) a b c
-register-meant Sra rd rs1 rs2 a b c = r_word_means 0b101 0b0100000 rd rs1 rs2 (omega arith) (omega arith) a b c
-register-meant Or rd rs1 rs2 a b c = r_word_means 0b110 0b0000000 rd rs1 rs2 (omega arith) (omega arith) a b c
-register-meant And rd rs1 rs2 a b c = r_word_means 0b111 0b0000000 rd rs1 rs2 (omega arith) (omega arith) a b c
-register-meant Mul rd rs1 rs2 a b c = r_word_means 0b000 0b0000001 rd rs1 rs2 (omega arith) (omega arith) a b c
-register-meant Mulh rd rs1 rs2 a b c = r_word_means 0b001 0b0000001 rd rs1 rs2 (omega arith) (omega arith) a b c
-register-meant Mulhsu rd rs1 rs2 a b c = r_word_means 0b010 0b0000001 rd rs1 rs2 (omega arith) (omega arith) a b c
-register-meant Mulhu rd rs1 rs2 a b c = r_word_means 0b011 0b0000001 rd rs1 rs2 (omega arith) (omega arith) a b c
-register-meant Div rd rs1 rs2 a b c = r_word_means 0b100 0b0000001 rd rs1 rs2 (omega arith) (omega arith) a b c
-register-meant Divu rd rs1 rs2 a b c = r_word_means 0b101 0b0000001 rd rs1 rs2 (omega arith) (omega arith) a b c
-register-meant Rem rd rs1 rs2 a b c = r_word_means 0b110 0b0000001 rd rs1 rs2 (omega arith) (omega arith) a b c
-register-meant Remu rd rs1 rs2 a b c = r_word_means 0b111 0b0000001 rd rs1 rs2 (omega arith) (omega arith) a b c
+register-meant op rd rs1 rs2 a b c = r_word_means _ _ rd rs1 rs2 (register-funct3 op) (register-funct7 op) a b c
 
-immediate-meant : (op : ImmediateOp) (rd rs1 : ℕ) (imm : ℤ) → rd < 32 → rs1 < 32 → IsHeld 12 imm → IsMeant (immediate_instr op rd rs1 imm)
+immediate-meant : (op : ImmediateOperator) (rd rs1 : ℕ) (imm : ℤ) → rd < 32 → rs1 < 32 → IsHeld 12 imm → IsMeant (instr.Immediate op rd rs1 imm)
 unfolding word_of
-immediate-meant Addi rd rs1 imm a b h = i_word_means 0b0010011 0b000 rd rs1 imm (omega arith) (omega arith) a b h
-immediate-meant Slti rd rs1 imm a b h = i_word_means 0b0010011 0b010 rd rs1 imm (omega arith) (omega arith) a b h
-immediate-meant Sltiu rd rs1 imm a b h = i_word_means 0b0010011 0b011 rd rs1 imm (omega arith) (omega arith) a b h
-immediate-meant Xori rd rs1 imm a b h = i_word_means 0b0010011 0b100 rd rs1 imm (omega arith) (omega arith) a b h
-immediate-meant Ori rd rs1 imm a b h = i_word_means 0b0010011 0b110 rd rs1 imm (omega arith) (omega arith) a b h
-immediate-meant Andi rd rs1 imm a b h = i_word_means 0b0010011 0b111 rd rs1 imm (omega arith) (omega arith) a b h
+immediate-meant op rd rs1 imm a b h = i_word_means 0b0010011 _ rd rs1 imm (omega arith) (immediate-funct3 op) a b h
 
-shift-meant : (op : ShiftOp) (rd rs1 amount : ℕ) → rd < 32 → rs1 < 32 → amount < 32 → IsMeant (shift_instr op rd rs1 amount)
+shift-meant : (op : ShiftOperator) (rd rs1 amount : ℕ) → rd < 32 → rs1 < 32 → amount < 32 → IsMeant (instr.Shift op rd rs1 amount)
 unfolding word_of
-shift-meant Slli rd rs1 amount a b c = shift_word_means 0b001 0b0000000 rd rs1 amount (omega arith) (omega arith) a b c
-shift-meant Srli rd rs1 amount a b c = shift_word_means 0b101 0b0000000 rd rs1 amount (omega arith) (omega arith) a b c
-shift-meant Srai rd rs1 amount a b c = shift_word_means 0b101 0b0100000 rd rs1 amount (omega arith) (omega arith) a b c
+shift-meant op rd rs1 amount a b c = shift_word_means _ _ rd rs1 amount (shift-funct3 op) (shift-funct7 op) a b c
 
-load-meant : (op : LoadOp) (rd rs1 : ℕ) (imm : ℤ) → rd < 32 → rs1 < 32 → IsHeld 12 imm → IsMeant (load_instr op rd rs1 imm)
+load-meant : (op : LoadOperator) (rd rs1 : ℕ) (imm : ℤ) → rd < 32 → rs1 < 32 → IsHeld 12 imm → IsMeant (instr.Load op rd rs1 imm)
 unfolding word_of
-load-meant Jalr rd rs1 imm a b h = i_word_means 0b1100111 0b000 rd rs1 imm (omega arith) (omega arith) a b h
-load-meant Lb rd rs1 imm a b h = i_word_means 0b0000011 0b000 rd rs1 imm (omega arith) (omega arith) a b h
-load-meant Lh rd rs1 imm a b h = i_word_means 0b0000011 0b001 rd rs1 imm (omega arith) (omega arith) a b h
-load-meant Lw rd rs1 imm a b h = i_word_means 0b0000011 0b010 rd rs1 imm (omega arith) (omega arith) a b h
-load-meant Lbu rd rs1 imm a b h = i_word_means 0b0000011 0b100 rd rs1 imm (omega arith) (omega arith) a b h
-load-meant Lhu rd rs1 imm a b h = i_word_means 0b0000011 0b101 rd rs1 imm (omega arith) (omega arith) a b h
+load-meant op rd rs1 imm a b h = i_word_means 0b0000011 _ rd rs1 imm (omega arith) (load-funct3 op) a b h
 
-store-meant : (op : StoreOp) (rs1 rs2 : ℕ) (imm : ℤ) → rs1 < 32 → rs2 < 32 → IsHeld 12 imm → IsMeant (store_instr op rs1 rs2 imm)
+store-meant : (width : Width) (rs1 rs2 : ℕ) (imm : ℤ) → rs1 < 32 → rs2 < 32 → IsHeld 12 imm → IsMeant (instr.Store width rs1 rs2 imm)
 unfolding word_of
-store-meant Sb rs1 rs2 imm a b h = s_word_means 0b000 rs1 rs2 imm (omega arith) a b h
-store-meant Sh rs1 rs2 imm a b h = s_word_means 0b001 rs1 rs2 imm (omega arith) a b h
-store-meant Sw rs1 rs2 imm a b h = s_word_means 0b010 rs1 rs2 imm (omega arith) a b h
+store-meant width rs1 rs2 imm a b h = s_word_means _ rs1 rs2 imm (store-funct3 width) a b h
 
-branch-meant : (op : BranchOp) (rs1 rs2 : ℕ) (offset : ℤ) → rs1 < 32 → rs2 < 32 → IsOffset 13 offset → IsMeant (branch_instr op rs1 rs2 offset)
+branch-meant : (op : Condition) (rs1 rs2 : ℕ) (offset : ℤ) → rs1 < 32 → rs2 < 32 → IsOffset 13 offset → IsMeant (instr.Branch op rs1 rs2 offset)
 unfolding word_of
-branch-meant Beq rs1 rs2 offset a b h = b_word_means 0b000 rs1 rs2 offset (omega arith) a b h.held h.even
-branch-meant Bne rs1 rs2 offset a b h = b_word_means 0b001 rs1 rs2 offset (omega arith) a b h.held h.even
-branch-meant Blt rs1 rs2 offset a b h = b_word_means 0b100 rs1 rs2 offset (omega arith) a b h.held h.even
-branch-meant Bge rs1 rs2 offset a b h = b_word_means 0b101 rs1 rs2 offset (omega arith) a b h.held h.even
-branch-meant Bltu rs1 rs2 offset a b h = b_word_means 0b110 rs1 rs2 offset (omega arith) a b h.held h.even
-branch-meant Bgeu rs1 rs2 offset a b h = b_word_means 0b111 rs1 rs2 offset (omega arith) a b h.held h.even
+branch-meant op rs1 rs2 offset a b h = b_word_means _ rs1 rs2 offset (branch-funct3 op) a b h.held h.even
+
+jalr-meant : (rd rs1 : ℕ) (imm : ℤ) → rd < 32 → rs1 < 32 → IsHeld 12 imm → IsMeant (instr.Jalr rd rs1 imm)
+unfolding word_of
+jalr-meant rd rs1 imm a b h = i_word_means 0b1100111 0b000 rd rs1 imm (omega arith) (omega arith) a b h
 
 upper-meant : (op : UpperOp) (rd u : ℕ) → rd < 32 → u < 2 ^ 20 → IsMeant (upper_instr op rd u)
 unfolding word_of
@@ -186,7 +150,7 @@ unary-meant Sgtz rd rs a b = register-meant Slt rd 0 rs a (omega arith) b
 plain-meant : (op : PlainOp) → IsMeant (plain_instr op)
 unfolding word_of
 plain-meant Nop = immediate-meant Addi 0 0 (pos 0) (omega arith) (omega arith) held_zero
-plain-meant Ret = load-meant Jalr 0 1 (pos 0) (omega arith) (omega arith) held_zero
+plain-meant Ret = jalr-meant 0 1 (pos 0) (omega arith) (omega arith) held_zero
 plain-meant Fence = (refl, refl)
 plain-meant FenceI = (refl, refl)
 plain-meant Ecall = refl
@@ -212,7 +176,7 @@ one-meant f None e h is = cc
 
 long-meant : (rd u : ℕ) → rd < 32 → AreMeant (long_expansion rd u)
 long-meant rd u a =
-    elim (u % 2 ^ 12 == 0) as (λ b. AreMeant (if b then One (instr.Lui rd (high_part u)) else Two (instr.Lui rd (high_part u)) (instr.Immediate immediate.Addi rd rd (low_part u)))) [
+    elim (u % 2 ^ 12 == 0) as (λ b. AreMeant (if b then One (instr.Lui rd (high_part u)) else Two (instr.Lui rd (high_part u)) (instr.Immediate Addi rd rd (low_part u)))) [
       | true ↦ upper-meant Lui rd (high_part u) a (high-below u)
       | false ↦ (upper-meant Lui rd (high_part u) a (high-below u), immediate-meant Addi rd rd (low_part u) a a (low_held u))
     ]
@@ -224,18 +188,19 @@ fitting-meant rd u v None a is = long-meant rd u a
 -- the words of an expansion of registers mean its instructions
 pub expansion-meant : (m : Mnemonic) (o : Operands) (v : ℤ) (e : Expansion) → HasRegisters o → expansion_of m o v ≡ Some e → AreMeant e
 expansion-meant (form.Registers op) o v e h is = same_expansion _ e is (register-meant op o.first o.second o.third h.first h.second h.third)
-expansion-meant (form.Immediate op) o v e h is = one-meant (λ imm. immediate_instr op o.first o.second imm) (immediate_of v) e (λ imm found. immediate-meant op o.first o.second imm h.first h.second (immediate_held v imm found)) is
-expansion-meant (form.Shift op) o v e h is = one-meant (λ amount. shift_instr op o.first o.second amount) (amount_of v) e (λ amount found. shift-meant op o.first o.second amount h.first h.second (amount-below v amount found)) is
-expansion-meant (form.Load op) o v e h is = one-meant (λ imm. load_instr op o.first o.second imm) (immediate_of v) e (λ imm found. load-meant op o.first o.second imm h.first h.second (immediate_held v imm found)) is
-expansion-meant (form.Store op) o v e h is = one-meant (λ imm. store_instr op o.second o.first imm) (immediate_of v) e (λ imm found. store-meant op o.second o.first imm h.second h.first (immediate_held v imm found)) is
-expansion-meant (form.Branch op) o v e h is = one-meant (λ offset. branch_instr op o.first o.second offset) (branch_offset_of v) e (λ offset found. branch-meant op o.first o.second offset h.first h.second (branch_held v offset found)) is
-expansion-meant (form.Swapped op) o v e h is = one-meant (λ offset. branch_instr op o.second o.first offset) (branch_offset_of v) e (λ offset found. branch-meant op o.second o.first offset h.second h.first (branch_held v offset found)) is
-expansion-meant (form.WithZero op) o v e h is = one-meant (λ offset. branch_instr op o.first 0 offset) (branch_offset_of v) e (λ offset found. branch-meant op o.first 0 offset h.first (omega arith) (branch_held v offset found)) is
-expansion-meant (form.FromZero op) o v e h is = one-meant (λ offset. branch_instr op 0 o.first offset) (branch_offset_of v) e (λ offset found. branch-meant op 0 o.first offset (omega arith) h.first (branch_held v offset found)) is
+expansion-meant (form.Immediate op) o v e h is = one-meant (λ imm. instr.Immediate op o.first o.second imm) (immediate_of v) e (λ imm found. immediate-meant op o.first o.second imm h.first h.second (immediate_held v imm found)) is
+expansion-meant (form.Shift op) o v e h is = one-meant (λ amount. instr.Shift op o.first o.second amount) (amount_of v) e (λ amount found. shift-meant op o.first o.second amount h.first h.second (amount-below v amount found)) is
+expansion-meant (form.Load op) o v e h is = one-meant (λ imm. instr.Load op o.first o.second imm) (immediate_of v) e (λ imm found. load-meant op o.first o.second imm h.first h.second (immediate_held v imm found)) is
+expansion-meant (form.Store op) o v e h is = one-meant (λ imm. instr.Store op o.second o.first imm) (immediate_of v) e (λ imm found. store-meant op o.second o.first imm h.second h.first (immediate_held v imm found)) is
+expansion-meant (form.Branch op) o v e h is = one-meant (λ offset. instr.Branch op o.first o.second offset) (branch_offset_of v) e (λ offset found. branch-meant op o.first o.second offset h.first h.second (branch_held v offset found)) is
+expansion-meant (form.Swapped op) o v e h is = one-meant (λ offset. instr.Branch op o.second o.first offset) (branch_offset_of v) e (λ offset found. branch-meant op o.second o.first offset h.second h.first (branch_held v offset found)) is
+expansion-meant (form.WithZero op) o v e h is = one-meant (λ offset. instr.Branch op o.first 0 offset) (branch_offset_of v) e (λ offset found. branch-meant op o.first 0 offset h.first (omega arith) (branch_held v offset found)) is
+expansion-meant (form.FromZero op) o v e h is = one-meant (λ offset. instr.Branch op 0 o.first offset) (branch_offset_of v) e (λ offset found. branch-meant op 0 o.first offset (omega arith) h.first (branch_held v offset found)) is
 expansion-meant (form.Upper op) o v e h is = one-meant (λ u. upper_instr op o.first u) (upper_of v) e (λ u found. upper-meant op o.first u h.first (upper-below v u found)) is
 expansion-meant form.Jal o v e h is = one-meant (λ offset. instr.Jal o.first offset) (jump_offset_of v) e (λ offset found. jump-meant o.first offset h.first (jump_held v offset found)) is
+expansion-meant form.Jalr o v e h is = one-meant (λ imm. instr.Jalr o.first o.second imm) (immediate_of v) e (λ imm found. jalr-meant o.first o.second imm h.first h.second (immediate_held v imm found)) is
 expansion-meant (form.Jump link) o v e h is = one-meant (λ offset. instr.Jal (link_register link) offset) (jump_offset_of v) e (λ offset found. jump-meant (link_register link) offset (link-below link) (jump_held v offset found)) is
-expansion-meant (form.JumpRegister link) o v e h is = same_expansion _ e is (load-meant Jalr (link_register link) o.first (pos 0) (link-below link) h.first held_zero)
+expansion-meant (form.JumpRegister link) o v e h is = same_expansion _ e is (jalr-meant (link_register link) o.first (pos 0) (link-below link) h.first held_zero)
 expansion-meant (form.Unary op) o v e h is = same_expansion _ e is (unary-meant op o.first o.second h.first h.second)
 expansion-meant (form.Plain op) o v e h is = same_expansion _ e is (plain-meant op)
 expansion-meant form.Li o v e h is =

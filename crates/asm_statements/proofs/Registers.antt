@@ -3,10 +3,11 @@ use Rattle.std.proofs.Common.{ℕ, ℤ, ◌≡◌, ◌<◌, Bool, true, false, L
 use Rattle.std.specs.Prelude.{if◌then◌else◌}
 use Rattle.std.specs.Option.{ok_or}
 use Rattle.asm_text.specs.declared.token.Token.{Token}
+use Rattle.asm_text.specs.declared.token.TokenKind.TheVariants.{Comma, Open, Close}
 use Rattle.asm_statements.specs.Names.{named, registers, mnemonics, directives}
-use Rattle.asm_statements.specs.Tokens.{text_at, is_word, is_comma, is_open, is_close, number_of, is_string, is_label, register_at}
+use Rattle.asm_statements.specs.Tokens.{text_at, is_word, is_mark, number_of, is_string, is_label, register_at}
 use Rattle.asm_statements.specs.Operands.{slot_read, after_slot, operands_read, no_operands, with_value, bare_label, target_read, slots_of, chosen}
-use Rattle.asm_statements.specs.Statements.{with_no_more, numbers_read, ascii_read, space_read, directive_read, instruction_read, mnemonic_read, word_read, statement_read}
+use Rattle.asm_statements.specs.Statements.{with_no_more, numbers_read, ascii_read, space_read, directive_read, instruction_read, word_read, statement_read}
 use Rattle.asm_statements.specs.declared.mnemonic.Mnemonic.{Mnemonic}
 use Rattle.asm_statements.specs.declared.mnemonic.Directive.{Directive}
 use Rattle.asm_statements.specs.declared.mnemonic.Directive.TheVariants as directive
@@ -53,9 +54,9 @@ slot-registers source end slot.Third t ts o p h is =
     let (r, found, made) = and_then-ok (ok_or (register_at source t) t.start) (λ (r : ℕ). Ok (record o { third = r })) p is in
     let below : r < 32 = register_at-below source t r (ok_or-ok (register_at source t) t.start r found) in
     subst (λ (x : Operands). HasRegisters x) (same_operands (record o { third = r }) p made) (record { first = h.first; second = h.second; third = below })
-slot-registers source end slot.Comma t ts o p h is = mark-registers (is_comma t.kind) t.start o p h is
-slot-registers source end slot.Open t ts o p h is = mark-registers (is_open t.kind) t.start o p h is
-slot-registers source end slot.Close t ts o p h is = mark-registers (is_close t.kind) t.start o p h is
+slot-registers source end slot.Comma t ts o p h is = mark-registers (is_mark Comma t.kind) t.start o p h is
+slot-registers source end slot.Open t ts o p h is = mark-registers (is_mark Open t.kind) t.start o p h is
+slot-registers source end slot.Close t ts o p h is = mark-registers (is_mark Close t.kind) t.start o p h is
 slot-registers source end slot.Number t ts o p h is =
     let (n, _, made) = and_then-ok (ok_or (number_of t.kind) t.start) (λ (n : ℤ). Ok (with_value o (operand.Number n) t.start)) p is in
     subst (λ (x : Operands). HasRegisters x) (same_operands (with_value o (operand.Number n) t.start) p made) (record { first = h.first; second = h.second; third = h.third })
@@ -96,7 +97,7 @@ numbers-known in_data false end [] s t h is = same_known in_data s t is h
 numbers-known in_data true end (x ∷ xs) s t h is =
     let (_, _, rest) = and_then-ok (ok_or (number_of x.kind) x.start) (λ (n : ℤ). numbers_read false end xs s) t is in
     numbers-known in_data false end xs s t h rest
-numbers-known in_data false end (x ∷ xs) s t h is = after (is_comma x.kind) (numbers-known in_data true end xs s t h) is
+numbers-known in_data false end (x ∷ xs) s t h is = after (is_mark Comma x.kind) (numbers-known in_data true end xs s t h) is
   where
     after : (b : Bool) → (numbers_read true end xs s ≡ Ok t → IsKnown in_data t) → (if b then numbers_read true end xs s else Err x.start) ≡ Ok t → IsKnown in_data t
     after true go is = go is
@@ -131,13 +132,11 @@ instruction-known source in_data end m ts t is =
     let (o, read, made) = and_then-ok (operands_read source end (slots_of m) ts no_operands) (λ (o : Operands). Ok (statement.Instruction m o)) t is in
     same_known in_data (statement.Instruction m o) t made (operands-registers source end (slots_of m) ts no_operands o no_operands-registers read)
 
-mnemonic-known : (source : List ℕ) (in_data : Bool) (end at : ℕ) (m : Option Mnemonic) (ts : List Token) (t : Statement) → mnemonic_read source end at m ts ≡ Ok t → IsKnown in_data t
-mnemonic-known source in_data end at (Some m) ts t is = instruction-known source in_data end (chosen m ts) ts t is
-mnemonic-known source in_data end at None ts t is = absurd (let no : ⊥ = cc in no)
-
 word-known : (source : List ℕ) (in_data : Bool) (end at : ℕ) (word : List ℕ) (d : Option Directive) (ts : List Token) (t : Statement) → word_read source in_data end at word d ts ≡ Ok t → IsKnown in_data t
 word-known source in_data end at word (Some d) ts t is = directive-known in_data end at d ts t is
-word-known source in_data end at word None ts t is = mnemonic-known source in_data end at (named mnemonics word) ts t is
+word-known source in_data end at word None ts t is =
+    let (m, _, read) = and_then-ok (ok_or (named mnemonics word) at) (λ (m : Mnemonic). instruction_read source end (chosen m ts) ts) t is in
+    instruction-known source in_data end (chosen m ts) ts t read
 
 -- a statement that was read is known
 pub statement-known : (source : List ℕ) (in_data : Bool) (end : ℕ) (ts : List Token) (t : Statement) → statement_read source in_data end ts ≡ Ok t → IsKnown in_data t

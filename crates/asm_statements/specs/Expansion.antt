@@ -5,26 +5,10 @@ use Rattle.std.specs.Int.{cast_signed, w32}
 use Rattle.formats.specs.Fields.{signed}
 use Rattle.formats.specs.declared.instr.Instr.{Instr}
 use Rattle.formats.specs.declared.instr.Instr.TheVariants as instr
-use Rattle.formats.specs.declared.operators.Arithmetic.TheVariants as register
-use Rattle.formats.specs.declared.operators.ImmediateOperator.TheVariants as immediate
-use Rattle.formats.specs.declared.operators.ShiftOperator.TheVariants as shift
-use Rattle.formats.specs.declared.operators.LoadOperator.TheVariants as load
-use Rattle.formats.specs.declared.operators.Condition.TheVariants as condition
-use Rattle.memory_model.specs.declared.access.Width.TheVariants as width
+use Rattle.formats.specs.declared.operators.Arithmetic.TheVariants.{Sub, Slt, Sltu}
+use Rattle.formats.specs.declared.operators.ImmediateOperator.TheVariants.{Addi, Sltiu, Xori}
 use Rattle.asm_statements.specs.declared.mnemonic.Mnemonic.{Mnemonic}
 use Rattle.asm_statements.specs.declared.mnemonic.Mnemonic.TheVariants as form
-use Rattle.asm_statements.specs.declared.mnemonic.RegisterOp.{RegisterOp}
-use Rattle.asm_statements.specs.declared.mnemonic.RegisterOp.TheVariants.{Add, Sub, Sll, Slt, Sltu, Xor, Srl, Sra, Or, And, Mul, Mulh, Mulhsu, Mulhu, Div, Divu, Rem, Remu}
-use Rattle.asm_statements.specs.declared.mnemonic.ImmediateOp.{ImmediateOp}
-use Rattle.asm_statements.specs.declared.mnemonic.ImmediateOp.TheVariants.{Addi, Slti, Sltiu, Xori, Ori, Andi}
-use Rattle.asm_statements.specs.declared.mnemonic.ShiftOp.{ShiftOp}
-use Rattle.asm_statements.specs.declared.mnemonic.ShiftOp.TheVariants.{Slli, Srli, Srai}
-use Rattle.asm_statements.specs.declared.mnemonic.LoadOp.{LoadOp}
-use Rattle.asm_statements.specs.declared.mnemonic.LoadOp.TheVariants.{Jalr, Lb, Lh, Lw, Lbu, Lhu}
-use Rattle.asm_statements.specs.declared.mnemonic.StoreOp.{StoreOp}
-use Rattle.asm_statements.specs.declared.mnemonic.StoreOp.TheVariants.{Sb, Sh, Sw}
-use Rattle.asm_statements.specs.declared.mnemonic.BranchOp.{BranchOp}
-use Rattle.asm_statements.specs.declared.mnemonic.BranchOp.TheVariants.{Beq, Bne, Blt, Bge, Bltu, Bgeu}
 use Rattle.asm_statements.specs.declared.mnemonic.UpperOp.{UpperOp}
 use Rattle.asm_statements.specs.declared.mnemonic.UpperOp.TheVariants.{Lui, Auipc}
 use Rattle.asm_statements.specs.declared.mnemonic.Link.{Link}
@@ -73,75 +57,21 @@ low_part u = signed 12 (u % 2 ^ 12)
 unfoldable pub high_part : ℕ → ℕ
 high_part u = modulo_word (pos u -ℤ low_part u) / 2 ^ 12
 
-abbrev pub register_instr : RegisterOp → ℕ → ℕ → ℕ → Instr
-register_instr Add rd rs1 rs2 = instr.Register register.Add rd rs1 rs2
-register_instr Sub rd rs1 rs2 = instr.Register register.Sub rd rs1 rs2
-register_instr Sll rd rs1 rs2 = instr.Register register.Sll rd rs1 rs2
-register_instr Slt rd rs1 rs2 = instr.Register register.Slt rd rs1 rs2
-register_instr Sltu rd rs1 rs2 = instr.Register register.Sltu rd rs1 rs2
-register_instr Xor rd rs1 rs2 = instr.Register register.Xor rd rs1 rs2
-register_instr Srl rd rs1 rs2 = instr.Register register.Srl rd rs1 rs2
-register_instr Sra rd rs1 rs2 = instr.Register register.Sra rd rs1 rs2
-register_instr Or rd rs1 rs2 = instr.Register register.Or rd rs1 rs2
-register_instr And rd rs1 rs2 = instr.Register register.And rd rs1 rs2
-register_instr Mul rd rs1 rs2 = instr.Register register.Mul rd rs1 rs2
-register_instr Mulh rd rs1 rs2 = instr.Register register.Mulh rd rs1 rs2
-register_instr Mulhsu rd rs1 rs2 = instr.Register register.Mulhsu rd rs1 rs2
-register_instr Mulhu rd rs1 rs2 = instr.Register register.Mulhu rd rs1 rs2
-register_instr Div rd rs1 rs2 = instr.Register register.Div rd rs1 rs2
-register_instr Divu rd rs1 rs2 = instr.Register register.Divu rd rs1 rs2
-register_instr Rem rd rs1 rs2 = instr.Register register.Rem rd rs1 rs2
-register_instr Remu rd rs1 rs2 = instr.Register register.Remu rd rs1 rs2
-
-abbrev pub immediate_instr : ImmediateOp → ℕ → ℕ → ℤ → Instr
-immediate_instr Addi rd rs1 imm = instr.Immediate immediate.Addi rd rs1 imm
-immediate_instr Slti rd rs1 imm = instr.Immediate immediate.Slti rd rs1 imm
-immediate_instr Sltiu rd rs1 imm = instr.Immediate immediate.Sltiu rd rs1 imm
-immediate_instr Xori rd rs1 imm = instr.Immediate immediate.Xori rd rs1 imm
-immediate_instr Ori rd rs1 imm = instr.Immediate immediate.Ori rd rs1 imm
-immediate_instr Andi rd rs1 imm = instr.Immediate immediate.Andi rd rs1 imm
-
-abbrev pub shift_instr : ShiftOp → ℕ → ℕ → ℕ → Instr
-shift_instr Slli rd rs1 amount = instr.Shift shift.Slli rd rs1 amount
-shift_instr Srli rd rs1 amount = instr.Shift shift.Srli rd rs1 amount
-shift_instr Srai rd rs1 amount = instr.Shift shift.Srai rd rs1 amount
-
-abbrev pub load_instr : LoadOp → ℕ → ℕ → ℤ → Instr
-load_instr Jalr rd rs1 imm = instr.Jalr rd rs1 imm
-load_instr Lb rd rs1 imm = instr.Load load.Lb rd rs1 imm
-load_instr Lh rd rs1 imm = instr.Load load.Lh rd rs1 imm
-load_instr Lw rd rs1 imm = instr.Load load.Lw rd rs1 imm
-load_instr Lbu rd rs1 imm = instr.Load load.Lbu rd rs1 imm
-load_instr Lhu rd rs1 imm = instr.Load load.Lhu rd rs1 imm
-
-abbrev pub store_instr : StoreOp → ℕ → ℕ → ℤ → Instr
-store_instr Sb rs1 rs2 imm = instr.Store width.Byte rs1 rs2 imm
-store_instr Sh rs1 rs2 imm = instr.Store width.Half rs1 rs2 imm
-store_instr Sw rs1 rs2 imm = instr.Store width.Word rs1 rs2 imm
-
-abbrev pub branch_instr : BranchOp → ℕ → ℕ → ℤ → Instr
-branch_instr Beq rs1 rs2 offset = instr.Branch condition.Equal rs1 rs2 offset
-branch_instr Bne rs1 rs2 offset = instr.Branch condition.NotEqual rs1 rs2 offset
-branch_instr Blt rs1 rs2 offset = instr.Branch condition.Less rs1 rs2 offset
-branch_instr Bge rs1 rs2 offset = instr.Branch condition.NotLess rs1 rs2 offset
-branch_instr Bltu rs1 rs2 offset = instr.Branch condition.Below rs1 rs2 offset
-branch_instr Bgeu rs1 rs2 offset = instr.Branch condition.NotBelow rs1 rs2 offset
-
 abbrev pub upper_instr : UpperOp → ℕ → ℕ → Instr
 upper_instr Lui rd u = instr.Lui rd u
 upper_instr Auipc rd u = instr.Auipc rd u
 
 abbrev pub unary_instr : UnaryOp → ℕ → ℕ → Instr
-unary_instr Mv rd rs = instr.Immediate immediate.Addi rd rs (pos 0)
-unary_instr Not rd rs = instr.Immediate immediate.Xori rd rs (negsuc 0)
-unary_instr Neg rd rs = instr.Register register.Sub rd 0 rs
-unary_instr Seqz rd rs = instr.Immediate immediate.Sltiu rd rs (pos 1)
-unary_instr Snez rd rs = instr.Register register.Sltu rd 0 rs
-unary_instr Sltz rd rs = instr.Register register.Slt rd rs 0
-unary_instr Sgtz rd rs = instr.Register register.Slt rd 0 rs
+unary_instr Mv rd rs = instr.Immediate Addi rd rs (pos 0)
+unary_instr Not rd rs = instr.Immediate Xori rd rs (negsuc 0)
+unary_instr Neg rd rs = instr.Register Sub rd 0 rs
+unary_instr Seqz rd rs = instr.Immediate Sltiu rd rs (pos 1)
+unary_instr Snez rd rs = instr.Register Sltu rd 0 rs
+unary_instr Sltz rd rs = instr.Register Slt rd rs 0
+unary_instr Sgtz rd rs = instr.Register Slt rd 0 rs
 
 abbrev pub plain_instr : PlainOp → Instr
-plain_instr Nop = instr.Immediate immediate.Addi 0 0 (pos 0)
+plain_instr Nop = instr.Immediate Addi 0 0 (pos 0)
 plain_instr Ret = instr.Jalr 0 1 (pos 0)
 plain_instr Fence = instr.Fence
 plain_instr FenceI = instr.FenceI
@@ -154,10 +84,10 @@ link_register Ra = 1
 
 -- `li` of a word: its immediate as a signed number, if it fits; else its high part and, if it is not 0, its low part
 abbrev pub long_expansion : ℕ → ℕ → Expansion
-long_expansion rd u = if u % 2 ^ 12 == 0 then One (instr.Lui rd (high_part u)) else Two (instr.Lui rd (high_part u)) (instr.Immediate immediate.Addi rd rd (low_part u))
+long_expansion rd u = if u % 2 ^ 12 == 0 then One (instr.Lui rd (high_part u)) else Two (instr.Lui rd (high_part u)) (instr.Immediate Addi rd rd (low_part u))
 
 abbrev pub fitting_expansion : ℕ → ℕ → Option ℤ → Expansion
-fitting_expansion rd u (Some imm) = One (instr.Immediate immediate.Addi rd 0 imm)
+fitting_expansion rd u (Some imm) = One (instr.Immediate Addi rd 0 imm)
 fitting_expansion rd u None = long_expansion rd u
 
 abbrev pub li_expansion : ℕ → ℕ → Expansion
@@ -165,7 +95,7 @@ li_expansion rd u = fitting_expansion rd u (immediate_of (cast_signed w32 u))
 
 -- `la` of a distance from the instruction, always two
 abbrev pub la_expansion : ℕ → ℕ → Expansion
-la_expansion rd u = Two (instr.Auipc rd (high_part u)) (instr.Immediate immediate.Addi rd rd (low_part u))
+la_expansion rd u = Two (instr.Auipc rd (high_part u)) (instr.Immediate Addi rd rd (low_part u))
 
 -- the number that a value is, where it is no label
 abbrev pub written : Value → ℤ
@@ -175,17 +105,18 @@ written v = pos 0
 -- The expansion of a mnemonic with these operands, and this number: an immediate, an amount or upper bits as they are
 -- written; the distance from the instruction to its target or label. None where the number does not fit.
 abbrev pub expansion_of : Mnemonic → Operands → ℤ → Option Expansion
-expansion_of (form.Registers op) o v = Some (One (register_instr op o.first o.second o.third))
-expansion_of (form.Immediate op) o v = option_map (λ imm. One (immediate_instr op o.first o.second imm)) (immediate_of v)
-expansion_of (form.Shift op) o v = option_map (λ amount. One (shift_instr op o.first o.second amount)) (amount_of v)
-expansion_of (form.Load op) o v = option_map (λ imm. One (load_instr op o.first o.second imm)) (immediate_of v)
-expansion_of (form.Store op) o v = option_map (λ imm. One (store_instr op o.second o.first imm)) (immediate_of v)
-expansion_of (form.Branch op) o v = option_map (λ offset. One (branch_instr op o.first o.second offset)) (branch_offset_of v)
-expansion_of (form.Swapped op) o v = option_map (λ offset. One (branch_instr op o.second o.first offset)) (branch_offset_of v)
-expansion_of (form.WithZero op) o v = option_map (λ offset. One (branch_instr op o.first 0 offset)) (branch_offset_of v)
-expansion_of (form.FromZero op) o v = option_map (λ offset. One (branch_instr op 0 o.first offset)) (branch_offset_of v)
+expansion_of (form.Registers operator) o v = Some (One (instr.Register operator o.first o.second o.third))
+expansion_of (form.Immediate operator) o v = option_map (λ imm. One (instr.Immediate operator o.first o.second imm)) (immediate_of v)
+expansion_of (form.Shift operator) o v = option_map (λ amount. One (instr.Shift operator o.first o.second amount)) (amount_of v)
+expansion_of (form.Load operator) o v = option_map (λ imm. One (instr.Load operator o.first o.second imm)) (immediate_of v)
+expansion_of (form.Store width) o v = option_map (λ imm. One (instr.Store width o.second o.first imm)) (immediate_of v)
+expansion_of (form.Branch condition) o v = option_map (λ offset. One (instr.Branch condition o.first o.second offset)) (branch_offset_of v)
+expansion_of (form.Swapped condition) o v = option_map (λ offset. One (instr.Branch condition o.second o.first offset)) (branch_offset_of v)
+expansion_of (form.WithZero condition) o v = option_map (λ offset. One (instr.Branch condition o.first 0 offset)) (branch_offset_of v)
+expansion_of (form.FromZero condition) o v = option_map (λ offset. One (instr.Branch condition 0 o.first offset)) (branch_offset_of v)
 expansion_of (form.Upper op) o v = option_map (λ u. One (upper_instr op o.first u)) (upper_of v)
 expansion_of form.Jal o v = option_map (λ offset. One (instr.Jal o.first offset)) (jump_offset_of v)
+expansion_of form.Jalr o v = option_map (λ imm. One (instr.Jalr o.first o.second imm)) (immediate_of v)
 expansion_of (form.Jump link) o v = option_map (λ offset. One (instr.Jal (link_register link) offset)) (jump_offset_of v)
 expansion_of (form.JumpRegister link) o v = Some (One (instr.Jalr (link_register link) o.first (pos 0)))
 expansion_of (form.Unary op) o v = Some (One (unary_instr op o.first o.second))

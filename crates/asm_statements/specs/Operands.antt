@@ -1,12 +1,12 @@
 -- The operands of an instruction: which of them a mnemonic has, and how they are read.
-use Rattle.std.specs.Prelude.{ℕ, ℤ, pos, ◌||◌, ◌==◌, Bool, true, false, if◌then◌else◌, List, [], ◌∷◌, Option, Some, None, Result, Ok, Err}
+use Rattle.std.specs.Prelude.{ℕ, ℤ, pos, ◌||◌, ◌==◌, Bool, false, if◌then◌else◌, drop, List, [], ◌∷◌, Option, Some, None, Result, Ok, Err}
 use Rattle.asm_text.specs.declared.token.Token.{Token}
+use Rattle.asm_text.specs.declared.token.TokenKind.TheVariants.{Comma, Open, Close, Plus, Minus}
 use Rattle.std.specs.Option.{ok_or}
 use Rattle.asm_statements.specs.Steps.{and_then}
-use Rattle.asm_statements.specs.Tokens.{is_word, is_comma, is_open, is_close, is_plus, is_minus, number_of, is_label, register_at}
+use Rattle.asm_statements.specs.Tokens.{is_word, is_mark, number_of, is_label, register_at}
 use Rattle.asm_statements.specs.declared.mnemonic.Mnemonic.{Mnemonic}
 use Rattle.asm_statements.specs.declared.mnemonic.Mnemonic.TheVariants as form
-use Rattle.asm_statements.specs.declared.mnemonic.LoadOp.TheVariants.{Jalr}
 use Rattle.asm_statements.specs.declared.mnemonic.Link.TheVariants.{Ra}
 use Rattle.asm_statements.specs.declared.operands.Slot.{Slot}
 use Rattle.asm_statements.specs.declared.operands.Slot.TheVariants as slot
@@ -27,6 +27,7 @@ slots_of (form.WithZero op) = slot.First ∷ slot.Comma ∷ slot.Target ∷ []
 slots_of (form.FromZero op) = slot.First ∷ slot.Comma ∷ slot.Target ∷ []
 slots_of (form.Upper op) = slot.First ∷ slot.Comma ∷ slot.Number ∷ []
 slots_of form.Jal = slot.First ∷ slot.Comma ∷ slot.Target ∷ []
+slots_of form.Jalr = slot.First ∷ slot.Comma ∷ slot.Number ∷ slot.Open ∷ slot.Second ∷ slot.Close ∷ []
 slots_of (form.Jump link) = slot.Target ∷ []
 slots_of (form.JumpRegister link) = slot.First ∷ []
 slots_of (form.Unary op) = slot.First ∷ slot.Comma ∷ slot.Second ∷ []
@@ -38,22 +39,17 @@ slots_of form.La = slot.First ∷ slot.Comma ∷ slot.Label ∷ []
 abbrev pub with_comma : List Token → Bool
 with_comma [] = false
 with_comma (t ∷ []) = false
-with_comma (t ∷ u ∷ ts) = is_comma u.kind
+with_comma (t ∷ u ∷ ts) = is_mark Comma u.kind
 
 -- `jal` and `jalr` with no comma after their first operand link ra: a jump to a target, and one to a register
 abbrev pub chosen : Mnemonic → List Token → Mnemonic
 chosen form.Jal tokens = if with_comma tokens then form.Jal else form.Jump Ra
-chosen (form.Load Jalr) tokens = if with_comma tokens then form.Load Jalr else form.JumpRegister Ra
+chosen form.Jalr tokens = if with_comma tokens then form.Jalr else form.JumpRegister Ra
 chosen mnemonic tokens = mnemonic
 
 -- no operands: x0 three times, and 0
 abbrev pub no_operands : Operands
 no_operands = record { first = 0; second = 0; third = 0; value = operand.Number (pos 0); at = 0 }
-
--- nothing, where what is wanted stands there; else the place
-abbrev pub expected : Bool → ℕ → Result (Unit {0}) ℕ
-expected true at = Ok tt
-expected false at = Err at
 
 -- a label with nothing added
 abbrev pub bare_label : Token → Value
@@ -68,8 +64,8 @@ addend_read end sign_end (t ∷ ts) = and_then (ok_or (number_of t.kind) t.start
 abbrev pub sum_read : ℕ → Token → List Token → Result Value ℕ
 sum_read end label [] = Ok (bare_label label)
 sum_read end label (sign ∷ ts) =
-    if is_plus sign.kind then and_then (addend_read end sign.end ts) (λ n. Ok (operand.Above label.start label.end n))
-    else if is_minus sign.kind then and_then (addend_read end sign.end ts) (λ n. Ok (operand.Below label.start label.end n))
+    if is_mark Plus sign.kind then and_then (addend_read end sign.end ts) (λ n. Ok (operand.Above label.start label.end n))
+    else if is_mark Minus sign.kind then and_then (addend_read end sign.end ts) (λ n. Ok (operand.Below label.start label.end n))
     else Ok (bare_label label)
 
 -- a target: a number, or a label with what is added to it or taken from it
@@ -81,13 +77,9 @@ abbrev pub target_read : List ℕ → ℕ → Token → List Token → Result Va
 target_read source end t ts = named_target source end (number_of t.kind) t ts
 
 -- the tokens after a label's name and what is added to it or taken from it
-abbrev pub after_one : List Token → List Token
-after_one [] = []
-after_one (t ∷ ts) = ts
-
 abbrev pub after_label : List Token → List Token
 after_label [] = []
-after_label (sign ∷ ts) = if is_plus sign.kind || is_minus sign.kind then after_one ts else sign ∷ ts
+after_label (sign ∷ ts) = if is_mark Plus sign.kind || is_mark Minus sign.kind then drop 1 ts else sign ∷ ts
 
 -- the operands with the value that stands at a place
 abbrev pub with_value : Operands → Value → ℕ → Operands
@@ -98,9 +90,9 @@ abbrev pub slot_read : List ℕ → ℕ → Slot → Token → List Token → Op
 slot_read source end slot.First t ts o = and_then (ok_or (register_at source t) t.start) (λ r. Ok (record o { first = r }))
 slot_read source end slot.Second t ts o = and_then (ok_or (register_at source t) t.start) (λ r. Ok (record o { second = r }))
 slot_read source end slot.Third t ts o = and_then (ok_or (register_at source t) t.start) (λ r. Ok (record o { third = r }))
-slot_read source end slot.Comma t ts o = if is_comma t.kind then Ok o else Err t.start
-slot_read source end slot.Open t ts o = if is_open t.kind then Ok o else Err t.start
-slot_read source end slot.Close t ts o = if is_close t.kind then Ok o else Err t.start
+slot_read source end slot.Comma t ts o = if is_mark Comma t.kind then Ok o else Err t.start
+slot_read source end slot.Open t ts o = if is_mark Open t.kind then Ok o else Err t.start
+slot_read source end slot.Close t ts o = if is_mark Close t.kind then Ok o else Err t.start
 slot_read source end slot.Number t ts o = and_then (ok_or (number_of t.kind) t.start) (λ n. Ok (with_value o (operand.Number n) t.start))
 slot_read source end slot.Target t ts o = and_then (target_read source end t ts) (λ v. Ok (with_value o v t.start))
 slot_read source end slot.Label t ts o = if is_label source t then Ok (with_value o (bare_label t) t.start) else Err t.start

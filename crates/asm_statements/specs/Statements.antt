@@ -2,9 +2,10 @@
 use Rattle.std.specs.Prelude.{ℕ, ◌&&◌, ◌==◌, Bool, true, false, if◌then◌else◌, List, [], ◌∷◌, Option, Some, None, Result, Ok, Err}
 use Rattle.std.specs.Option.{ok_or}
 use Rattle.asm_text.specs.declared.token.Token.{Token}
+use Rattle.asm_text.specs.declared.token.TokenKind.TheVariants.{Comma, Colon}
 use Rattle.asm_statements.specs.Steps.{and_then}
 use Rattle.asm_statements.specs.Names.{named, mnemonics, directives}
-use Rattle.asm_statements.specs.Tokens.{text_at, is_word, is_comma, is_colon, number_of, is_string, is_label}
+use Rattle.asm_statements.specs.Tokens.{text_at, is_word, is_mark, number_of, is_string, is_label}
 use Rattle.asm_statements.specs.Operands.{slots_of, chosen, operands_read, no_operands}
 use Rattle.asm_statements.specs.declared.mnemonic.Mnemonic.{Mnemonic}
 use Rattle.asm_statements.specs.declared.mnemonic.Directive.{Directive}
@@ -19,7 +20,7 @@ abbrev pub label_read : List ℕ → List Token → Result (Option Label × List
 label_read source [] = Ok (None, [])
 label_read source (t ∷ []) = Ok (None, t ∷ [])
 label_read source (t ∷ u ∷ ts) =
-    if is_colon u.kind && (u.start == t.end)
+    if is_mark Colon u.kind && (u.start == t.end)
     then (if is_label source t then Ok (Some (record { start = t.start; end = t.end }), ts) else Err t.start)
     else Ok (None, t ∷ u ∷ ts)
 
@@ -33,7 +34,7 @@ abbrev pub numbers_read : Bool → ℕ → List Token → Statement → Result S
 numbers_read true end [] s = Err end
 numbers_read false end [] s = Ok s
 numbers_read true end (t ∷ ts) s = and_then (ok_or (number_of t.kind) t.start) (λ n. numbers_read false end ts s)
-numbers_read false end (t ∷ ts) s = if is_comma t.kind then numbers_read true end ts s else Err t.start
+numbers_read false end (t ∷ ts) s = if is_mark Comma t.kind then numbers_read true end ts s else Err t.start
 
 -- one string
 abbrev pub ascii_read : ℕ → List Token → Result Statement ℕ
@@ -59,13 +60,9 @@ abbrev pub instruction_read : List ℕ → ℕ → Mnemonic → List Token → R
 instruction_read source end m ts = and_then (operands_read source end (slots_of m) ts no_operands) (λ o. Ok (statement.Instruction m o))
 
 -- what a word at a place means, by the tokens after it
-abbrev pub mnemonic_read : List ℕ → ℕ → ℕ → Option Mnemonic → List Token → Result Statement ℕ
-mnemonic_read source end at (Some m) ts = instruction_read source end (chosen m ts) ts
-mnemonic_read source end at None ts = Err at
-
 abbrev pub word_read : List ℕ → Bool → ℕ → ℕ → List ℕ → Option Directive → List Token → Result Statement ℕ
 word_read source in_data end at word (Some d) ts = directive_read in_data end at d ts
-word_read source in_data end at word None ts = mnemonic_read source end at (named mnemonics word) ts
+word_read source in_data end at word None ts = and_then (ok_or (named mnemonics word) at) (λ m. instruction_read source end (chosen m ts) ts)
 
 -- The statement that the tokens make; no tokens make `Nothing`. An error is the place of the first token that no statement has
 -- there, or `end` where one is missing.

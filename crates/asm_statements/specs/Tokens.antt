@@ -15,29 +15,15 @@ abbrev pub is_word : TokenKind → Bool
 is_word Word = true
 is_word _ = false
 
-abbrev pub is_comma : TokenKind → Bool
-is_comma Comma = true
-is_comma _ = false
-
-abbrev pub is_colon : TokenKind → Bool
-is_colon Colon = true
-is_colon _ = false
-
-abbrev pub is_open : TokenKind → Bool
-is_open Open = true
-is_open _ = false
-
-abbrev pub is_close : TokenKind → Bool
-is_close Close = true
-is_close _ = false
-
-abbrev pub is_plus : TokenKind → Bool
-is_plus Plus = true
-is_plus _ = false
-
-abbrev pub is_minus : TokenKind → Bool
-is_minus Minus = true
-is_minus _ = false
+-- the kind is this mark
+abbrev pub is_mark : TokenKind → TokenKind → Bool
+is_mark Comma Comma = true
+is_mark Colon Colon = true
+is_mark Open Open = true
+is_mark Close Close = true
+is_mark Plus Plus = true
+is_mark Minus Minus = true
+is_mark _ _ = false
 
 -- a number from -2^31 to 2^32 - 1
 abbrev pub literal_of : ℤ → Option ℤ

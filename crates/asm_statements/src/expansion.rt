@@ -3,15 +3,12 @@ ghost use Rattle.std.specs.Prelude.{◌≡◌};
 ghost use Rattle.std.specs.Option.{option_map};
 ghost use Rattle.formats.specs.declared.instr.Instr.TheVariants as instr;
 ghost use Rattle.asm_statements.specs.declared.expansion.Expansion.TheVariants.{One};
-ghost use Rattle.asm_statements.specs.Expansion.{immediate_of, branch_offset_of, jump_offset_of, upper_of, amount_of, expansion_of, register_instr, immediate_instr, shift_instr, load_instr, store_instr, branch_instr, upper_instr, unary_instr, plain_instr, link_register, li_expansion, la_expansion, written, words_taken};
+ghost use Rattle.asm_statements.specs.Expansion.{immediate_of, branch_offset_of, jump_offset_of, upper_of, amount_of, expansion_of, upper_instr, unary_instr, plain_instr, link_register, li_expansion, la_expansion, written, words_taken};
 
 use crate::fields::{
     amount, branch_offset, high_part, immediate, jump_offset, low_part, modulo_word, upper,
 };
-use crate::mnemonic::{
-    BranchOp, ImmediateOp, Link, LoadOp, Mnemonic, PlainOp, RegisterOp, ShiftOp, StoreOp, UnaryOp,
-    UpperOp,
-};
+use crate::mnemonic::{Link, Mnemonic, PlainOp, UnaryOp, UpperOp};
 use crate::operands::{Operands, Value};
 use formats::{
     Arithmetic, Condition, Immediate, ImmediateOperator, Instr, LoadOperator, Reg, ShiftOperator,
@@ -33,20 +30,23 @@ pub fn expanded(mnemonic: Mnemonic, operands: &Operands, number: i64) -> Option<
     let first = operands.first;
     let second = operands.second;
     match mnemonic {
-        Mnemonic::Registers(op) => {
-            let instr = register_instr(op, first, second, operands.third);
-            Some(Expansion::One(instr))
-        }
-        Mnemonic::Immediate(op) => immediate_instr(op, first, second, number),
-        Mnemonic::Shift(op) => shift_instr(op, first, second, number),
-        Mnemonic::Load(op) => load_instr(op, first, second, number),
-        Mnemonic::Store(op) => store_instr(op, second, first, number),
-        Mnemonic::Branch(op) => branch_instr(op, first, second, number),
-        Mnemonic::Swapped(op) => branch_instr(op, second, first, number),
-        Mnemonic::WithZero(op) => branch_instr(op, first, Reg::new(0), number),
-        Mnemonic::FromZero(op) => branch_instr(op, Reg::new(0), first, number),
+        Mnemonic::Registers(operator) => Some(Expansion::One(Instr::Register {
+            operator,
+            rd: first,
+            rs1: second,
+            rs2: operands.third,
+        })),
+        Mnemonic::Immediate(operator) => immediate_instr(operator, first, second, number),
+        Mnemonic::Shift(operator) => shift_instr(operator, first, second, number),
+        Mnemonic::Load(operator) => load_instr(operator, first, second, number),
+        Mnemonic::Store(width) => store_instr(width, second, first, number),
+        Mnemonic::Branch(condition) => branch_instr(condition, first, second, number),
+        Mnemonic::Swapped(condition) => branch_instr(condition, second, first, number),
+        Mnemonic::WithZero(condition) => branch_instr(condition, first, Reg::new(0), number),
+        Mnemonic::FromZero(condition) => branch_instr(condition, Reg::new(0), first, number),
         Mnemonic::Upper(op) => upper_instr(op, first, number),
         Mnemonic::Jal => jump_instr(first, number),
+        Mnemonic::Jalr => register_jump(first, second, number),
         Mnemonic::Jump(link) => jump_instr(link_register(link), number),
         Mnemonic::JumpRegister(link) => Some(Expansion::One(Instr::Jalr {
             rd: link_register(link),
@@ -134,49 +134,10 @@ fn load_address(rd: Reg, distance: u32) -> Expansion
     )
 }
 
-fn register_instr(op: RegisterOp, rd: Reg, rs1: Reg, rs2: Reg) -> Instr
-    ensures { result ≡ register_instr op rd rs1 rs2 }
-{
-    let operator = match op {
-        RegisterOp::Add => Arithmetic::Add,
-        RegisterOp::Sub => Arithmetic::Sub,
-        RegisterOp::Sll => Arithmetic::Sll,
-        RegisterOp::Slt => Arithmetic::Slt,
-        RegisterOp::Sltu => Arithmetic::Sltu,
-        RegisterOp::Xor => Arithmetic::Xor,
-        RegisterOp::Srl => Arithmetic::Srl,
-        RegisterOp::Sra => Arithmetic::Sra,
-        RegisterOp::Or => Arithmetic::Or,
-        RegisterOp::And => Arithmetic::And,
-        RegisterOp::Mul => Arithmetic::Mul,
-        RegisterOp::Mulh => Arithmetic::Mulh,
-        RegisterOp::Mulhsu => Arithmetic::Mulhsu,
-        RegisterOp::Mulhu => Arithmetic::Mulhu,
-        RegisterOp::Div => Arithmetic::Div,
-        RegisterOp::Divu => Arithmetic::Divu,
-        RegisterOp::Rem => Arithmetic::Rem,
-        RegisterOp::Remu => Arithmetic::Remu,
-    };
-    Instr::Register {
-        operator,
-        rd,
-        rs1,
-        rs2,
-    }
-}
-
-fn immediate_instr(op: ImmediateOp, rd: Reg, rs1: Reg, number: i64) -> Option<Expansion>
-    ensures { result ≡ option_map (λ imm. One (immediate_instr op rd rs1 imm)) (immediate_of number) }
+fn immediate_instr(operator: ImmediateOperator, rd: Reg, rs1: Reg, number: i64) -> Option<Expansion>
+    ensures { result ≡ option_map (λ imm. One (instr.Immediate operator rd rs1 imm)) (immediate_of number) }
 {
     let imm = immediate(number)?;
-    let operator = match op {
-        ImmediateOp::Addi => ImmediateOperator::Addi,
-        ImmediateOp::Slti => ImmediateOperator::Slti,
-        ImmediateOp::Sltiu => ImmediateOperator::Sltiu,
-        ImmediateOp::Xori => ImmediateOperator::Xori,
-        ImmediateOp::Ori => ImmediateOperator::Ori,
-        ImmediateOp::Andi => ImmediateOperator::Andi,
-    };
     Some(Expansion::One(Instr::Immediate {
         operator,
         rd,
@@ -185,15 +146,10 @@ fn immediate_instr(op: ImmediateOp, rd: Reg, rs1: Reg, number: i64) -> Option<Ex
     }))
 }
 
-fn shift_instr(op: ShiftOp, rd: Reg, rs1: Reg, number: i64) -> Option<Expansion>
-    ensures { result ≡ option_map (λ amount. One (shift_instr op rd rs1 amount)) (amount_of number) }
+fn shift_instr(operator: ShiftOperator, rd: Reg, rs1: Reg, number: i64) -> Option<Expansion>
+    ensures { result ≡ option_map (λ amount. One (instr.Shift operator rd rs1 amount)) (amount_of number) }
 {
     let amount = amount(number)?;
-    let operator = match op {
-        ShiftOp::Slli => ShiftOperator::Slli,
-        ShiftOp::Srli => ShiftOperator::Srli,
-        ShiftOp::Srai => ShiftOperator::Srai,
-    };
     Some(Expansion::One(Instr::Shift {
         operator,
         rd,
@@ -202,18 +158,10 @@ fn shift_instr(op: ShiftOp, rd: Reg, rs1: Reg, number: i64) -> Option<Expansion>
     }))
 }
 
-fn load_instr(op: LoadOp, rd: Reg, rs1: Reg, number: i64) -> Option<Expansion>
-    ensures { result ≡ option_map (λ imm. One (load_instr op rd rs1 imm)) (immediate_of number) }
+fn load_instr(operator: LoadOperator, rd: Reg, rs1: Reg, number: i64) -> Option<Expansion>
+    ensures { result ≡ option_map (λ imm. One (instr.Load operator rd rs1 imm)) (immediate_of number) }
 {
     let imm = immediate(number)?;
-    let operator = match op {
-        LoadOp::Jalr => return Some(Expansion::One(Instr::Jalr { rd, rs1, imm })),
-        LoadOp::Lb => LoadOperator::Lb,
-        LoadOp::Lh => LoadOperator::Lh,
-        LoadOp::Lw => LoadOperator::Lw,
-        LoadOp::Lbu => LoadOperator::Lbu,
-        LoadOp::Lhu => LoadOperator::Lhu,
-    };
     Some(Expansion::One(Instr::Load {
         operator,
         rd,
@@ -222,15 +170,10 @@ fn load_instr(op: LoadOp, rd: Reg, rs1: Reg, number: i64) -> Option<Expansion>
     }))
 }
 
-fn store_instr(op: StoreOp, rs1: Reg, rs2: Reg, number: i64) -> Option<Expansion>
-    ensures { result ≡ option_map (λ imm. One (store_instr op rs1 rs2 imm)) (immediate_of number) }
+fn store_instr(width: Width, rs1: Reg, rs2: Reg, number: i64) -> Option<Expansion>
+    ensures { result ≡ option_map (λ imm. One (instr.Store width rs1 rs2 imm)) (immediate_of number) }
 {
     let imm = immediate(number)?;
-    let width = match op {
-        StoreOp::Sb => Width::Byte,
-        StoreOp::Sh => Width::Half,
-        StoreOp::Sw => Width::Word,
-    };
     Some(Expansion::One(Instr::Store {
         width,
         rs1,
@@ -239,18 +182,10 @@ fn store_instr(op: StoreOp, rs1: Reg, rs2: Reg, number: i64) -> Option<Expansion
     }))
 }
 
-fn branch_instr(op: BranchOp, rs1: Reg, rs2: Reg, number: i64) -> Option<Expansion>
-    ensures { result ≡ option_map (λ offset. One (branch_instr op rs1 rs2 offset)) (branch_offset_of number) }
+fn branch_instr(condition: Condition, rs1: Reg, rs2: Reg, number: i64) -> Option<Expansion>
+    ensures { result ≡ option_map (λ offset. One (instr.Branch condition rs1 rs2 offset)) (branch_offset_of number) }
 {
     let offset = branch_offset(number)?;
-    let condition = match op {
-        BranchOp::Beq => Condition::Equal,
-        BranchOp::Bne => Condition::NotEqual,
-        BranchOp::Blt => Condition::Less,
-        BranchOp::Bge => Condition::NotLess,
-        BranchOp::Bltu => Condition::Below,
-        BranchOp::Bgeu => Condition::NotBelow,
-    };
     Some(Expansion::One(Instr::Branch {
         condition,
         rs1,
@@ -276,6 +211,14 @@ fn jump_instr(rd: Reg, number: i64) -> Option<Expansion>
 {
     let offset = jump_offset(number)?;
     Some(Expansion::One(Instr::Jal { rd, offset }))
+}
+
+/// A JALR with a number added to rs1, where that fits.
+fn register_jump(rd: Reg, rs1: Reg, number: i64) -> Option<Expansion>
+    ensures { result ≡ option_map (λ imm. One (instr.Jalr rd rs1 imm)) (immediate_of number) }
+{
+    let imm = immediate(number)?;
+    Some(Expansion::One(Instr::Jalr { rd, rs1, imm }))
 }
 
 fn unary_instr(op: UnaryOp, rd: Reg, rs: Reg) -> Instr

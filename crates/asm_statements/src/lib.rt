@@ -16,10 +16,7 @@ pub use encoding::word;
 pub use expansion::{Expansion, expanded, words_taken};
 pub use fields::modulo_word;
 pub use literal::Literal;
-pub use mnemonic::{
-    BranchOp, ImmediateOp, Link, LoadOp, Mnemonic, PlainOp, RegisterOp, ShiftOp, StoreOp, UnaryOp,
-    UpperOp,
-};
+pub use mnemonic::{Link, Mnemonic, PlainOp, UnaryOp, UpperOp};
 pub use operands::{Operands, Value};
 pub use statement::{Label, Statement, read_statement, split_label};
 pub use tokens::{number_of, text_at};

@@ -1,31 +1,35 @@
 //! The mnemonics, by the form of their operands.
+use formats::{Arithmetic, Condition, ImmediateOperator, LoadOperator, ShiftOperator};
+use memory_model::Width;
 
 /// An instruction's name, with what tells its form. Pseudo-instructions on branches and jumps stand beside the instructions that
 /// they expand to.
 #[derive(Clone, Copy)]
 pub enum Mnemonic {
     /// `op rd,rs1,rs2`
-    Registers(RegisterOp),
+    Registers(Arithmetic),
     /// `op rd,rs1,imm`
-    Immediate(ImmediateOp),
+    Immediate(ImmediateOperator),
     /// `op rd,rs1,amount`
-    Shift(ShiftOp),
+    Shift(ShiftOperator),
     /// `op rd,imm(rs1)`
-    Load(LoadOp),
+    Load(LoadOperator),
     /// `op rs2,imm(rs1)`
-    Store(StoreOp),
+    Store(Width),
     /// `op rs1,rs2,target`
-    Branch(BranchOp),
+    Branch(Condition),
     /// `op a,b,target`, a branch on b and a.
-    Swapped(BranchOp),
+    Swapped(Condition),
     /// `op rs,target`, a branch on rs and zero.
-    WithZero(BranchOp),
+    WithZero(Condition),
     /// `op rs,target`, a branch on zero and rs.
-    FromZero(BranchOp),
+    FromZero(Condition),
     /// `op rd,u`
     Upper(UpperOp),
     /// `jal rd,target`
     Jal,
+    /// `jalr rd,imm(rs1)`
+    Jalr,
     /// `op target`
     Jump(Link),
     /// `op rs`
@@ -38,78 +42,6 @@ pub enum Mnemonic {
     Li,
     /// `la rd,label`
     La,
-}
-
-/// An operation on two registers.
-#[derive(Clone, Copy)]
-pub enum RegisterOp {
-    Add,
-    Sub,
-    Sll,
-    Slt,
-    Sltu,
-    Xor,
-    Srl,
-    Sra,
-    Or,
-    And,
-    Mul,
-    Mulh,
-    Mulhsu,
-    Mulhu,
-    Div,
-    Divu,
-    Rem,
-    Remu,
-}
-
-/// An operation on a register and an immediate.
-#[derive(Clone, Copy)]
-pub enum ImmediateOp {
-    Addi,
-    Slti,
-    Sltiu,
-    Xori,
-    Ori,
-    Andi,
-}
-
-/// A shift by an amount.
-#[derive(Clone, Copy)]
-pub enum ShiftOp {
-    Slli,
-    Srli,
-    Srai,
-}
-
-/// A load.
-#[derive(Clone, Copy)]
-pub enum LoadOp {
-    Jalr,
-    Lb,
-    Lh,
-    Lw,
-    Lbu,
-    Lhu,
-}
-
-/// A store.
-#[derive(Clone, Copy)]
-pub enum StoreOp {
-    Sb,
-    Sh,
-    Sw,
-}
-
-/// A branch.
-#[derive(Clone, Copy)]
-pub enum BranchOp {
-    Beq,
-    Bne,
-    Blt,
-    Bge,
-    Bltu,
-    Bgeu,
 }
 
 /// An operation on the upper twenty bits.

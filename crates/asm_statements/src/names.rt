@@ -3,88 +3,70 @@ ghost use Rattle.std.specs.Prelude.{◌≡◌};
 ghost use Rattle.asm_statements.specs.Names.{named, mnemonics, directives, registers, value_named};
 ghost use Rattle.std.specs.Str.{bytes_eq};
 
-use crate::mnemonic::{
-    BranchOp, Directive, ImmediateOp, Link, LoadOp, Mnemonic, PlainOp, RegisterOp, ShiftOp,
-    StoreOp, UnaryOp, UpperOp,
+use crate::mnemonic::{Directive, Link, Mnemonic, PlainOp, UnaryOp, UpperOp};
+use formats::{
+    Arithmetic, Condition, ImmediateOperator, LoadOperator, Reg, ShiftOperator, each_branch,
+    each_immediate, each_load, each_register, each_shift, each_store,
 };
-use formats::Reg;
+use memory_model::Width;
+
+/// The names of the instruction table, each with the form of its operands: what is named so far, the form of the rows that come,
+/// the tables after them with their forms, and the rows. After the last table, the names without a row there.
+macro_rules! named {
+    (
+        [$($named:tt)*] $form:ident [$each:ident $next:ident $($rest:tt)*]
+        $type:ident: $($name:ident $funct3:literal $funct7:literal $mnemonic:literal,)+
+    ) => {
+        $each! { named [$($named)* $(($mnemonic, Mnemonic::$form($type::$name)),)+] $next [$($rest)*] }
+    };
+    (
+        [$($named:tt)*] $form:ident []
+        $type:ident: $($name:ident $funct3:literal $funct7:literal $mnemonic:literal,)+
+    ) => {
+        [
+            $($named)*
+            $(($mnemonic, Mnemonic::$form($type::$name)),)+
+            ("bgt", Mnemonic::Swapped(Condition::Less)),
+            ("ble", Mnemonic::Swapped(Condition::NotLess)),
+            ("bgtu", Mnemonic::Swapped(Condition::Below)),
+            ("bleu", Mnemonic::Swapped(Condition::NotBelow)),
+            ("beqz", Mnemonic::WithZero(Condition::Equal)),
+            ("bnez", Mnemonic::WithZero(Condition::NotEqual)),
+            ("bgez", Mnemonic::WithZero(Condition::NotLess)),
+            ("bltz", Mnemonic::WithZero(Condition::Less)),
+            ("blez", Mnemonic::FromZero(Condition::NotLess)),
+            ("bgtz", Mnemonic::FromZero(Condition::Less)),
+            ("lui", Mnemonic::Upper(UpperOp::Lui)),
+            ("auipc", Mnemonic::Upper(UpperOp::Auipc)),
+            ("jal", Mnemonic::Jal),
+            ("jalr", Mnemonic::Jalr),
+            ("j", Mnemonic::Jump(Link::Zero)),
+            ("call", Mnemonic::Jump(Link::Ra)),
+            ("jr", Mnemonic::JumpRegister(Link::Zero)),
+            ("mv", Mnemonic::Unary(UnaryOp::Mv)),
+            ("not", Mnemonic::Unary(UnaryOp::Not)),
+            ("neg", Mnemonic::Unary(UnaryOp::Neg)),
+            ("seqz", Mnemonic::Unary(UnaryOp::Seqz)),
+            ("snez", Mnemonic::Unary(UnaryOp::Snez)),
+            ("sltz", Mnemonic::Unary(UnaryOp::Sltz)),
+            ("sgtz", Mnemonic::Unary(UnaryOp::Sgtz)),
+            ("nop", Mnemonic::Plain(PlainOp::Nop)),
+            ("ret", Mnemonic::Plain(PlainOp::Ret)),
+            ("fence", Mnemonic::Plain(PlainOp::Fence)),
+            ("fence.i", Mnemonic::Plain(PlainOp::FenceI)),
+            ("ecall", Mnemonic::Plain(PlainOp::Ecall)),
+            ("ebreak", Mnemonic::Plain(PlainOp::Ebreak)),
+            ("li", Mnemonic::Li),
+            ("la", Mnemonic::La),
+        ]
+    };
+}
 
 /// Every mnemonic by its name. Of `jal` and `jalr` it has the forms with a register to link.
-static MNEMONICS: [(&str, Mnemonic); 73] = [
-    ("add", Mnemonic::Registers(RegisterOp::Add)),
-    ("sub", Mnemonic::Registers(RegisterOp::Sub)),
-    ("sll", Mnemonic::Registers(RegisterOp::Sll)),
-    ("slt", Mnemonic::Registers(RegisterOp::Slt)),
-    ("sltu", Mnemonic::Registers(RegisterOp::Sltu)),
-    ("xor", Mnemonic::Registers(RegisterOp::Xor)),
-    ("srl", Mnemonic::Registers(RegisterOp::Srl)),
-    ("sra", Mnemonic::Registers(RegisterOp::Sra)),
-    ("or", Mnemonic::Registers(RegisterOp::Or)),
-    ("and", Mnemonic::Registers(RegisterOp::And)),
-    ("mul", Mnemonic::Registers(RegisterOp::Mul)),
-    ("mulh", Mnemonic::Registers(RegisterOp::Mulh)),
-    ("mulhsu", Mnemonic::Registers(RegisterOp::Mulhsu)),
-    ("mulhu", Mnemonic::Registers(RegisterOp::Mulhu)),
-    ("div", Mnemonic::Registers(RegisterOp::Div)),
-    ("divu", Mnemonic::Registers(RegisterOp::Divu)),
-    ("rem", Mnemonic::Registers(RegisterOp::Rem)),
-    ("remu", Mnemonic::Registers(RegisterOp::Remu)),
-    ("addi", Mnemonic::Immediate(ImmediateOp::Addi)),
-    ("slti", Mnemonic::Immediate(ImmediateOp::Slti)),
-    ("sltiu", Mnemonic::Immediate(ImmediateOp::Sltiu)),
-    ("xori", Mnemonic::Immediate(ImmediateOp::Xori)),
-    ("ori", Mnemonic::Immediate(ImmediateOp::Ori)),
-    ("andi", Mnemonic::Immediate(ImmediateOp::Andi)),
-    ("slli", Mnemonic::Shift(ShiftOp::Slli)),
-    ("srli", Mnemonic::Shift(ShiftOp::Srli)),
-    ("srai", Mnemonic::Shift(ShiftOp::Srai)),
-    ("jalr", Mnemonic::Load(LoadOp::Jalr)),
-    ("lb", Mnemonic::Load(LoadOp::Lb)),
-    ("lh", Mnemonic::Load(LoadOp::Lh)),
-    ("lw", Mnemonic::Load(LoadOp::Lw)),
-    ("lbu", Mnemonic::Load(LoadOp::Lbu)),
-    ("lhu", Mnemonic::Load(LoadOp::Lhu)),
-    ("sb", Mnemonic::Store(StoreOp::Sb)),
-    ("sh", Mnemonic::Store(StoreOp::Sh)),
-    ("sw", Mnemonic::Store(StoreOp::Sw)),
-    ("beq", Mnemonic::Branch(BranchOp::Beq)),
-    ("bne", Mnemonic::Branch(BranchOp::Bne)),
-    ("blt", Mnemonic::Branch(BranchOp::Blt)),
-    ("bge", Mnemonic::Branch(BranchOp::Bge)),
-    ("bltu", Mnemonic::Branch(BranchOp::Bltu)),
-    ("bgeu", Mnemonic::Branch(BranchOp::Bgeu)),
-    ("bgt", Mnemonic::Swapped(BranchOp::Blt)),
-    ("ble", Mnemonic::Swapped(BranchOp::Bge)),
-    ("bgtu", Mnemonic::Swapped(BranchOp::Bltu)),
-    ("bleu", Mnemonic::Swapped(BranchOp::Bgeu)),
-    ("beqz", Mnemonic::WithZero(BranchOp::Beq)),
-    ("bnez", Mnemonic::WithZero(BranchOp::Bne)),
-    ("bgez", Mnemonic::WithZero(BranchOp::Bge)),
-    ("bltz", Mnemonic::WithZero(BranchOp::Blt)),
-    ("blez", Mnemonic::FromZero(BranchOp::Bge)),
-    ("bgtz", Mnemonic::FromZero(BranchOp::Blt)),
-    ("lui", Mnemonic::Upper(UpperOp::Lui)),
-    ("auipc", Mnemonic::Upper(UpperOp::Auipc)),
-    ("jal", Mnemonic::Jal),
-    ("j", Mnemonic::Jump(Link::Zero)),
-    ("call", Mnemonic::Jump(Link::Ra)),
-    ("jr", Mnemonic::JumpRegister(Link::Zero)),
-    ("mv", Mnemonic::Unary(UnaryOp::Mv)),
-    ("not", Mnemonic::Unary(UnaryOp::Not)),
-    ("neg", Mnemonic::Unary(UnaryOp::Neg)),
-    ("seqz", Mnemonic::Unary(UnaryOp::Seqz)),
-    ("snez", Mnemonic::Unary(UnaryOp::Snez)),
-    ("sltz", Mnemonic::Unary(UnaryOp::Sltz)),
-    ("sgtz", Mnemonic::Unary(UnaryOp::Sgtz)),
-    ("nop", Mnemonic::Plain(PlainOp::Nop)),
-    ("ret", Mnemonic::Plain(PlainOp::Ret)),
-    ("fence", Mnemonic::Plain(PlainOp::Fence)),
-    ("fence.i", Mnemonic::Plain(PlainOp::FenceI)),
-    ("ecall", Mnemonic::Plain(PlainOp::Ecall)),
-    ("ebreak", Mnemonic::Plain(PlainOp::Ebreak)),
-    ("li", Mnemonic::Li),
-    ("la", Mnemonic::La),
-];
+static MNEMONICS: &[(&str, Mnemonic)] = &each_register!(
+    named [] Registers
+    [each_immediate Immediate each_shift Shift each_load Load each_store Store each_branch Branch]
+);
 
 /// Every directive by its name.
 static DIRECTIVES: [(&str, Directive); 6] = [
@@ -168,7 +150,7 @@ static REGISTERS: [(&str, u8); 65] = [
 pub fn mnemonic_named(word: &[u8]) -> Option<Mnemonic>
     ensures { result ≡ named mnemonics word.now }
 {
-    value_named(&MNEMONICS, word)
+    value_named(MNEMONICS, word)
 }
 
 pub fn directive_named(word: &[u8]) -> Option<Directive>

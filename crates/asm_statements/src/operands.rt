@@ -1,9 +1,9 @@
 //! The operands of an instruction, read by the form of its mnemonic.
-ghost use Rattle.std.specs.Prelude.{◌≡◌};
-ghost use Rattle.asm_statements.specs.Operands.{no_operands, slots_of, chosen, with_comma, expected, bare_label, slot_read, target_read, sum_read, addend_read, after_slot, after_label, after_one, operands_read};
+ghost use Rattle.std.specs.Prelude.{◌≡◌, if◌then◌else◌, drop, Ok, Err};
+ghost use Rattle.asm_statements.specs.Operands.{no_operands, slots_of, chosen, with_comma, bare_label, slot_read, target_read, sum_read, addend_read, after_slot, after_label, operands_read};
 
 use crate::literal::Literal;
-use crate::mnemonic::{Link, LoadOp, Mnemonic};
+use crate::mnemonic::{Link, Mnemonic};
 use crate::tokens::{
     is_close, is_comma, is_label, is_minus, is_open, is_plus, is_word, number_of, register_at,
 };
@@ -91,7 +91,7 @@ pub fn chosen(mnemonic: Mnemonic, tokens: &[Token]) -> Mnemonic
                 Mnemonic::Jump(Link::Ra)
             }
         }
-        Mnemonic::Load(LoadOp::Jalr) => {
+        Mnemonic::Jalr => {
             if with_comma(tokens) {
                 mnemonic
             } else {
@@ -131,7 +131,7 @@ fn slots(mnemonic: Mnemonic) -> &'static [Slot]
             Slot::Comma,
             Slot::Number,
         ],
-        Mnemonic::Load(_) | Mnemonic::Store(_) => &[
+        Mnemonic::Load(_) | Mnemonic::Store(_) | Mnemonic::Jalr => &[
             Slot::First,
             Slot::Comma,
             Slot::Number,
@@ -225,7 +225,7 @@ fn after_slot<'a>(slot: Slot, token: &Token, after: &'a [Token]) -> &'a [Token]
 
 /// An error with the place, where the wanted token does not stand there.
 fn expect(stands: bool, at: usize) -> Result<(), usize>
-    ensures { result ≡ expected stands at }
+    ensures { result ≡ if stands then Ok tt else Err at }
 {
     if stands { Ok(()) } else { Err(at) }
 }
@@ -315,7 +315,7 @@ fn after_label(tokens: &[Token]) -> &[Token]
 }
 
 fn after_one(tokens: &[Token]) -> &[Token]
-    ensures { result.now ≡ after_one tokens.now }
+    ensures { result.now ≡ drop 1 tokens.now }
 {
     match tokens {
         [] => tokens,

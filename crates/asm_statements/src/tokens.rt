@@ -1,6 +1,7 @@
 //! What the tokens of a line are.
 ghost use Rattle.std.specs.Prelude.{◌≡◌};
-ghost use Rattle.asm_statements.specs.Tokens.{text_at, is_word, is_comma, is_colon, is_open, is_close, is_plus, is_minus, literal_of, number_of, is_string, is_name, is_label, register_at};
+ghost use Rattle.asm_text.specs.declared.token.TokenKind.TheVariants.{Comma, Colon, Open, Close, Plus, Minus};
+ghost use Rattle.asm_statements.specs.Tokens.{text_at, is_word, is_mark, literal_of, number_of, is_string, is_name, is_label, register_at};
 
 use crate::literal::Literal;
 use crate::names::register_named;
@@ -28,39 +29,39 @@ pub fn is_word(kind: &TokenKind) -> bool
 }
 
 pub fn is_comma(kind: &TokenKind) -> bool
-    ensures { result ≡ is_comma kind.now }
+    ensures { result ≡ is_mark Comma kind.now }
 {
     matches!(kind, TokenKind::Comma)
 }
 
 pub fn is_colon(kind: &TokenKind) -> bool
-    ensures { result ≡ is_colon kind.now }
+    ensures { result ≡ is_mark Colon kind.now }
 {
     matches!(kind, TokenKind::Colon)
 }
 
 /// Whether it is `(`.
 pub fn is_open(kind: &TokenKind) -> bool
-    ensures { result ≡ is_open kind.now }
+    ensures { result ≡ is_mark Open kind.now }
 {
     matches!(kind, TokenKind::Open)
 }
 
 /// Whether it is `)`.
 pub fn is_close(kind: &TokenKind) -> bool
-    ensures { result ≡ is_close kind.now }
+    ensures { result ≡ is_mark Close kind.now }
 {
     matches!(kind, TokenKind::Close)
 }
 
 pub fn is_plus(kind: &TokenKind) -> bool
-    ensures { result ≡ is_plus kind.now }
+    ensures { result ≡ is_mark Plus kind.now }
 {
     matches!(kind, TokenKind::Plus)
 }
 
 pub fn is_minus(kind: &TokenKind) -> bool
-    ensures { result ≡ is_minus kind.now }
+    ensures { result ≡ is_mark Minus kind.now }
 {
     matches!(kind, TokenKind::Minus)
 }

@@ -16,7 +16,7 @@ use Rattle.assembler.specs.declared.listing.ListingRow.{ListingRow}
 use Rattle.assembler.specs.declared.layout.Position.{Position}
 use Rattle.asm_statements.proofs.Stepping.{and_then-ok}
 use Rattle.assembler.proofs.Sizes.{IsMeasured}
-use Rattle.assembler.proofs.Pieces.{AreLaid, lines-laid, measured-all}
+use Rattle.assembler.proofs.Pieces.{lines-laid, measured-all}
 
 fitting : (w len : ℕ) → w ≡ counted len → w ≤ 245760 → len ≡ w
 fitting w len e small = omega arith

@@ -9,6 +9,7 @@ pub mod Listings
 pub mod Passes
 pub mod Outcomes
 pub mod LabelPlaces
+pub mod StatementBytes
 pub mod ByLines
 pub mod Loading
 pub mod Loadables

@@ -15,7 +15,7 @@ use Rattle.asm_statements.specs.Expansion.{expansion_of}
 use Rattle.assembler.specs.Faults.{at_line}
 use Rattle.assembler.specs.Labels.{SpotsByName}
 use Rattle.assembler.specs.Layout.{Laid, counted, start_layout, parsed, with_piece, all_placed}
-use Rattle.assembler.specs.Filling.{Contents, Scope, joined, in_words, words_of_expansion, distance_of, instruction_held, held, all_held, instructions_of}
+use Rattle.assembler.specs.Filling.{Contents, Scope, in_words, words_of_expansion, distance_of, instruction_held, held, all_held, instructions_of}
 use Rattle.assembler.specs.Assembly.{scope_of, Assembled, assembly, rows_from}
 use Rattle.assembler.specs.Sections.{lines_of}
 use Rattle.assembler.specs.Instructions.{IsInstruction, AreInstructions, IsListedInstruction, ListsInstructions}
@@ -37,7 +37,7 @@ use Rattle.assembler.proofs.Stepping.{at_line-ok}
 use Rattle.asm_statements.proofs.Registers.{HasRegisters, statement-known}
 use Rattle.asm_statements.proofs.Expansions.{AreMeant, expansion-meant}
 use Rattle.assembler.proofs.Sizes.{IsMeasured, same_contents}
-use Rattle.assembler.proofs.Pieces.{IsPlaced, IsParted, HasSteps, AreLaid, piece_at, parsed-is, same_laid, lines-steps, lines-laid, all_placed-append, held-parted, measured-all}
+use Rattle.assembler.proofs.Pieces.{IsPlaced, IsParted, HasSteps, AreLaid, piece_at, parsed-is, lines-steps, lines-laid, all_placed-append, held-parted, measured-all}
 use Rattle.assembler.proofs.WordSizes.{AreCounted, IsOf, lines-cells}
 use Rattle.assembler.proofs.Assemblies.{IsAssembly, assembly-is}
 

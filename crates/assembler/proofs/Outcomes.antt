@@ -31,14 +31,14 @@ within m n = by_test (nat_lt n m) refl
     by_test false is = inl (grind (arith, nat_tests))
 
 -- two readings come to one outcome
-same_passes : LinesAreOne → (s : List ℕ) (ls ms : List Line) (r : Result Assembled AsmFault) → IsText s ls → IsText s ms → assembly s ls ≡ r → assembly s ms ≡ r
-same_passes one s ls ms r p q is = subst (λ (x : List Line). assembly s x ≡ r) (one s ls ms p q) is
+same_assembly : LinesAreOne → (s : List ℕ) (ls ms : List Line) (r : Result Assembled AsmFault) → IsText s ls → IsText s ms → assembly s ls ≡ r → assembly s ms ≡ r
+same_assembly one s ls ms r p q is = subst (λ (x : List Line). assembly s x ≡ r) (one s ls ms p q) is
 
 pub one-image : LinesAreOne → (s : List ℕ) (i j : Program) (l m : List ListingRow) → Assembles s i l → Assembles s j m → (i ≡ j) × (l ≡ m)
 one-image one s i j l m a b =
     let first : Assembled = record { image = i; listing = l } in
     let second : Assembled = record { image = j; listing = m } in
-    let same : first ≡ second = same_assembled first second (sym (same_passes one s a.lines b.lines (Ok first) a.text b.text a.made) ∙ b.made) in
+    let same : first ≡ second = same_assembled first second (sym (same_assembly one s a.lines b.lines (Ok first) a.text b.text a.made) ∙ b.made) in
     (ap (λ (x : Assembled). x.image) same, ap (λ (x : Assembled). x.listing) same)
 
 -- every source has its lines or a fault, as asm_text's law says
@@ -72,7 +72,7 @@ image-or-fault one either s i l f a (too_long long is) = let fits : length s ≤
 image-or-fault one either s i l f a (in_tokens fits fault why) = either s a.lines f.line f.column a.text fault
 image-or-fault one either s i l f a (in_lines fits lines text refused) =
     let made : Assembled = record { image = i; listing = l } in
-    no_outcome made f (sym (same_passes one s a.lines lines (Ok made) a.text text a.made) ∙ refused)
+    no_outcome made f (sym (same_assembly one s a.lines lines (Ok made) a.text text a.made) ∙ refused)
 
 -- a fault by its parts
 same_parts : (f g : AsmFault) (why : Cause) → f.why ≡ why → g.why ≡ why → f.line ≡ g.line → f.column ≡ g.column → f ≡ g
@@ -90,4 +90,4 @@ one-fault one either single s f g (in_tokens fits fault why) (in_lines fits' lin
 one-fault one either single s f g (in_lines fits lines text refused) (too_long long is) = absurd (omega arith)
 one-fault one either single s f g (in_lines fits lines text refused) (in_tokens fits' fault why) = absurd (either s lines g.line g.column text fault)
 one-fault one either single s f g (in_lines fits lines text refused) (in_lines fits' lines' text' refused') =
-    same_fault f g (sym (same_passes one s lines lines' (Err f) text text' refused) ∙ refused')
+    same_fault f g (sym (same_assembly one s lines lines' (Err f) text text' refused) ∙ refused')

@@ -1,5 +1,5 @@
 -- The statements of lines, one after the other, and what they come to.
-use Rattle.std.proofs.Common.{ℕ, ◌≡◌, ◌+◌, suc, Bool, false, List, [], ◌∷◌, ◌++◌, Result, Ok, Err, Option, refl, sym, ap, ◌∙◌, subst, append_assoc, append-nil}
+use Rattle.std.proofs.Common.{ℕ, ◌≡◌, List, [], ◌∷◌, ◌++◌, Result, Ok, Option, refl, sym, ap, ◌∙◌, subst, append_assoc, append-nil}
 use Rattle.asm_text.specs.Tokens.{Leads}
 use Rattle.asm_text.specs.declared.token.Token.{Token}
 use Rattle.asm_text.specs.declared.token.Line.{Line}
@@ -33,6 +33,7 @@ pub record IsPlaced (source : List ℕ) (l : Laid) (p : Piece) (m : Laid) : Type
   pub prefix : label_read source p.line.tokens ≡ Ok (label, rest)
   pub labels : labelled source p.line label l.position l.labels ≡ Ok m.labels
   pub body : statement_read source p.position.in_data p.line.end rest ≡ Ok p.statement
+  pub checked : space_checked source p.line p.position.in_data p.statement ≡ Ok tt
   pub at : p.position ≡ l.position
   pub next : after p.position p.statement p.line.tokens ≡ m.position
 
@@ -61,6 +62,7 @@ parsed-is source line l r is =
       prefix = at_line-ok source line Syntax (label_read source line.tokens) split prefix;
       labels = label;
       body = at_line-ok source line Syntax (statement_read source l.position.in_data line.end split.1) s body;
+      checked = space;
       at = refl;
       next = refl;
     })
@@ -106,20 +108,6 @@ all_placed-append source [] ys l = refl
 all_placed-append source (x ∷ xs) ys l =
     and_then-each (parsed source x l.position l.labels) (λ (r : Statement × SpotsByName). all_placed source xs (with_piece l x r)) (λ (m : Laid). all_placed source ys m)
     (λ (r : Statement × SpotsByName). all_placed source (xs ++ ys) (with_piece l x r)) (λ r. all_placed-append source xs ys (with_piece l x r))
-
--- where a statement begins and ends among others
-pub record IsBetween (source : List ℕ) (l : Laid) (before : List Piece) (p : Piece) (after : List Piece) (m : Laid) : Type 0 where
-  pub begin : Laid
-  pub end : Laid
-  pub prefix : Leads (IsPlaced source) l before begin
-  pub here : IsPlaced source begin p end
-  pub back : Leads (IsPlaced source) end after m
-
-pub steps-between : (source : List ℕ) (l : Laid) (before : List Piece) (p : Piece) (after : List Piece) (m : Laid) → Leads (IsPlaced source) l (before ++ p ∷ after) m → IsBetween source l before p after m
-steps-between source l [] p after m steps = record { begin = l; end = steps.0; prefix = refl; here = steps.1; back = steps.2 }
-steps-between source l (q ∷ before) p after m steps =
-    let rest : IsBetween source steps.0 before p after m = steps-between source steps.0 before p after m steps.2 in
-    record { begin = rest.begin; end = rest.end; prefix = (steps.0, steps.1, rest.prefix); here = rest.here; back = rest.back }
 
 -- ---- what statements come to
 

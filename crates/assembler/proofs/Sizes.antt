@@ -87,6 +87,7 @@ expansion-counted (form.WithZero op) o v e is = one_counted _ _ e is
 expansion-counted (form.FromZero op) o v e is = one_counted _ _ e is
 expansion-counted (form.Upper op) o v e is = one_counted _ _ e is
 expansion-counted form.Jal o v e is = one_counted _ _ e is
+expansion-counted form.Jalr o v e is = one_counted _ _ e is
 expansion-counted (form.Jump link) o v e is = one_counted _ _ e is
 expansion-counted (form.JumpRegister link) o v e is = same_counted _ e is
 expansion-counted (form.Unary op) o v e is = same_counted _ e is

@@ -2,7 +2,7 @@
 use Rattle.std.proofs.Common.{ℕ, ℤ, ◌≡◌, ◌+◌, ◌*◌, ◌/◌, ◌%◌, ◌^◌, ◌<◌, ◌≤◌, Bool, true, false, List, [], ◌∷◌, length, Result, Ok, Option, Some, None, refl, sym, ap, ◌∙◌, subst, arith, lit<}
 use Rattle.std.specs.Prelude.{All}
 use Rattle.std.specs.Option.{ok_or}
-use Rattle.std.proofs.lemmas.List.Elements.{All-nil, All-cons, All-head, All-tail, All-append, All-map, All-weaker, All-replicate}
+use Rattle.std.proofs.lemmas.List.Elements.{All-nil, All-cons, All-append, All-map, All-weaker, All-replicate}
 use Rattle.formats.specs.Fields.{field, rd_of, rs1_of, rs2_of, immediate_u, immediate_j}
 use Rattle.formats.specs.Meaning.{Means, IsU, IsI, IsS, IsB, IsShift, IsR}
 use Rattle.formats.specs.declared.instr.Instr.{Instr}

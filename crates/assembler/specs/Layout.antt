@@ -64,7 +64,7 @@ abbrev pub string_in : List Token → List ℕ
 string_in [] = []
 string_in (t ∷ ts) = first_string t.kind (string_in ts)
 
--- how many bytes a `.space` of a number has: that many; none, where it is negative, which the first pass refuses
+-- how many bytes a `.space` of a number has: that many; none, where it is negative, which is refused
 abbrev pub space_bytes : ℤ → ℕ
 space_bytes (pos n) = n
 space_bytes (negsuc n) = 0

@@ -1,5 +1,6 @@
-//! Instruction words of RV32IM, both ways, and instructions as text. Read `Instr` first: it has a variant for each
-//! format, with an operator where the format has several, and the types of its fields keep them in range. `table.rt` has the rows of the ISA's table. `decode` and `encode` keep to that table.
+//! Instruction words of RV32IM, both ways, and instructions as text. Read `Instr` first: it has a variant for each format, with an
+//! operator where the format has several, and the types of its fields keep them in range. `table.rt` has the rows of the operators;
+//! `decode`, `encode` and `Display` look them up.
 #![tactic(auto)]
 
 mod constructors;

@@ -1,4 +1,4 @@
-//! The instruction table: for each format the rows of its operators. `decode`, `encode` and `Display` look them up.
+//! The instruction table: for each format the rows of its operators. `decode`, `encode`, `Display` and the assembler look them up.
 ghost use Rattle.std.specs.Prelude.{◌≡◌};
 ghost use Rattle.formats.specs.Table.{IsRow, found, register_row, immediate_row, shift_row, load_row, store_row, branch_row};
 
@@ -14,6 +14,7 @@ pub(crate) struct Row {
 }
 
 /// The operations on two registers. A row is an operator, its funct3, its funct7 and its mnemonic.
+#[macro_export]
 macro_rules! each_register {
     ($use:ident $($given:tt)*) => {
         $use! {
@@ -41,6 +42,7 @@ macro_rules! each_register {
 }
 
 /// The operations on a register and an immediate.
+#[macro_export]
 macro_rules! each_immediate {
     ($use:ident $($given:tt)*) => {
         $use! {
@@ -56,6 +58,7 @@ macro_rules! each_immediate {
 }
 
 /// The shifts by an amount.
+#[macro_export]
 macro_rules! each_shift {
     ($use:ident $($given:tt)*) => {
         $use! {
@@ -68,6 +71,7 @@ macro_rules! each_shift {
 }
 
 /// The loads.
+#[macro_export]
 macro_rules! each_load {
     ($use:ident $($given:tt)*) => {
         $use! {
@@ -82,6 +86,7 @@ macro_rules! each_load {
 }
 
 /// The stores.
+#[macro_export]
 macro_rules! each_store {
     ($use:ident $($given:tt)*) => {
         $use! {
@@ -94,6 +99,7 @@ macro_rules! each_store {
 }
 
 /// The branches.
+#[macro_export]
 macro_rules! each_branch {
     ($use:ident $($given:tt)*) => {
         $use! {

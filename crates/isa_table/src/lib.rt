@@ -7,10 +7,7 @@ mod execute;
 mod operation;
 mod regs;
 
-pub use arithmetic::{
-    high_product, high_product_mixed, high_product_signed, is_less_signed, moved, quotient,
-    quotient_signed, remainder, remainder_signed, shifted_right_signed, sign_extended,
-};
+pub use arithmetic::{moved, sign_extended};
 pub use execute::{Outcome, exec, exec_ref};
 pub use formats::{Arithmetic, Condition};
 pub use machine_model::{Bus, BusFault, Cause, Width};

@@ -8,7 +8,7 @@ use crate::arithmetic::{
 };
 use formats::{Arithmetic, Condition};
 
-/// The result of an operation on two words. Callers know the operation, so that the compiler leaves one arm of it.
+/// The result of an operation on two words. Inlined, so that the loop of an interpreter, whose operation is constant, keeps one arm.
 #[inline(always)]
 pub fn computed(operation: Arithmetic, a: u32, b: u32) -> u32
     ensures { result ≡ value_of operation a b }
@@ -35,7 +35,7 @@ pub fn computed(operation: Arithmetic, a: u32, b: u32) -> u32
     }
 }
 
-/// Whether a condition holds of two words. Callers know the condition, as they do in `computed`.
+/// Whether a condition holds of two words. Inlined for the same reason as `computed`.
 #[inline(always)]
 pub fn holds(condition: Condition, a: u32, b: u32) -> bool
     ensures { result ≡ holds_of condition a b }

@@ -2,12 +2,12 @@
 use crate::doubt::Doubt;
 use crate::meanings::{A0, A1, A2, When, call_of, meaning_of};
 use asm_statements::{
-    ImmediateOp, Label, Link, LoadOp, Mnemonic, Operands, PlainOp, Statement, Value,
-    read_statement, split_label,
+    Label, Link, Mnemonic, Operands, PlainOp, Statement, Value, read_statement, split_label,
 };
 use asm_text::{Line, lines};
 use assembler::Position;
 use call_forms::Outcome;
+use formats::ImmediateOperator;
 use machine_model::Image;
 use std::alloc::{AllocError, Global};
 
@@ -74,6 +74,7 @@ fn written_by(mnemonic: Mnemonic, operands: &Operands) -> Option<u8> {
         | Mnemonic::Load(_)
         | Mnemonic::Upper(_)
         | Mnemonic::Jal
+        | Mnemonic::Jalr
         | Mnemonic::Unary(_)
         | Mnemonic::Li
         | Mnemonic::La => Some(operands.first.number()),
@@ -85,7 +86,7 @@ fn written_by(mnemonic: Mnemonic, operands: &Operands) -> Option<u8> {
 fn number_put(mnemonic: Mnemonic, operands: &Operands) -> Option<i64> {
     match mnemonic {
         Mnemonic::Li => number_in(operands),
-        Mnemonic::Immediate(ImmediateOp::Addi) if operands.second.number() == 0 => {
+        Mnemonic::Immediate(ImmediateOperator::Addi) if operands.second.number() == 0 => {
             number_in(operands)
         }
         _ => None,
@@ -99,7 +100,7 @@ fn is_jump(mnemonic: Mnemonic) -> bool {
         Mnemonic::Jal
             | Mnemonic::Jump(_)
             | Mnemonic::JumpRegister(_)
-            | Mnemonic::Load(LoadOp::Jalr)
+            | Mnemonic::Jalr
             | Mnemonic::Plain(PlainOp::Ret)
     )
 }
@@ -180,7 +181,7 @@ fn goes_on(mnemonic: Mnemonic, call: Option<i64>) -> bool {
 /// The doubt about an instruction.
 fn doubt_of(mnemonic: Mnemonic, operands: &Operands, call: Option<i64>) -> Option<Doubt> {
     match mnemonic {
-        Mnemonic::Immediate(ImmediateOp::Addi)
+        Mnemonic::Immediate(ImmediateOperator::Addi)
             if operands.first.number() == SP && operands.second.number() == SP => {
             let by = number_in(operands)?;
             if by.unsigned_abs() % 4 == 0 {

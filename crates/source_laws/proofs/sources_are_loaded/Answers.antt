@@ -1,11 +1,10 @@
 -- The laws of the crates below, put together.
 use Rattle.std.specs.Prelude.{All}
 use Rattle.memory_model.specs.Memory.{Memory}
-use Rattle.std.proofs.Common.{length, ap}
-use Rattle.machine_model.specs.Images.{Program, IsProfile, bytes_of_words}
-use Rattle.assembler.specs.Filling.{Contents}
-use Rattle.assembler.specs.Assembly.{data_base, data_segments, words_of}
-use Rattle.assembler.specs.Sections.{IsByLines}
+use Rattle.std.proofs.Common.{ap}
+use Rattle.machine_model.specs.Images.{Program, IsProfile}
+use Rattle.assembler.specs.Assembly.{data_segments}
+use Rattle.assembler.specs.Sections.{text_of, data_of, data_begins, IsByLines}
 use Rattle.machine_model.specs.First.{first_state}
 use Rattle.source_laws.specs.Loaded.{IsFetched}
 use Rattle.source_laws.proofs.Fetching.{text-fetched, instructions-fetched}
@@ -17,9 +16,8 @@ returns c = λ source image listing assembles.
     let memory : Memory = (first_state image).architectural.memory in
     let profile : IsProfile image = c.assembled_is_listed.ensures.profile source image listing assembles in
     let by_lines : IsByLines source image = c.images_are_by_lines.ensures source image listing assembles in
-    let held : Contents = by_lines.contents in
     let rows : All (IsFetched memory) listing =
-    text-fetched memory image.segments listing (bytes_of_words (words_of held.cells)) (data_segments (data_base (length held.cells)) held.bytes) (ap (λ (p : Program). p.segments) by_lines.made)
+    text-fetched memory image.segments listing (text_of by_lines.parts) (data_segments (data_begins by_lines.parts) (data_of by_lines.parts)) (ap (λ (p : Program). p.segments) by_lines.made)
     (c.assembled_is_listed.ensures.listed source image listing assembles) (c.assembled_is_listed.ensures.words source image listing assembles) (c.segments_are_loaded.ensures image profile) in
     record {
       profile = profile;

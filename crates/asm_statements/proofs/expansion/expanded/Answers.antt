@@ -40,5 +40,8 @@ returns-in-Upper c = handed _ _ c.args.operands.now c.args.number _ c.in-Upper.i
 pub returns-in-Jal : goal.returns-in-Jal
 returns-in-Jal c = handed _ _ c.args.operands.now c.args.number _ c.in-Jal.is c.ranges.number c.jump_instr.ensures
 
+pub returns-in-Jalr : goal.returns-in-Jalr
+returns-in-Jalr c = handed _ _ c.args.operands.now c.args.number _ c.in-Jalr.is c.ranges.number c.register_jump.ensures
+
 pub returns-in-Jump : goal.returns-in-Jump
 returns-in-Jump c = handed _ _ c.args.operands.now c.args.number _ c.in-Jump.is c.ranges.number (rw c.link_register.ensures at c.jump_instr-in-Jump.ensures)
