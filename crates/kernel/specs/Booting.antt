@@ -11,7 +11,7 @@ use Rattle.kernel.specs.declared.cores.Booted.{Booted}
 
 -- what a core was booted from
 abbrev pub boot_of : Booted → Boot
-boot_of b = boot_with b.programs.items b.tapes.value.items b.files b.disk b.gate
+boot_of b = boot_with b.programs.items b.tapes.value.items b.files b.disk.value.items b.gate
 
 -- what a boot answers where the disk cannot be read: its fault, unless that is want of memory
 abbrev pub boot_fault : DiskFault → BootFault

@@ -75,7 +75,7 @@ impl Core {
     /// memory of each program and each tape hold bytes.
     pub fn boot(
         alloc: Global,
-        device: SimDisk,
+        mut device: SimDisk,
         programs: Vec<Program>,
         tapes: Vec<Bytes>,
     ) -> Result<Core, BootFault>
@@ -99,18 +99,21 @@ impl Core {
         held_files_are_made();
         let (files, gate) = journal::open(alloc, &device)?;
         let held = files.list().try_clone()?;
-        let disk = Bytes::copy_of(alloc, device.bytes())?;
+        let disk = device.share()?;
         let tapes = share(alloc, tapes)?;
         let shared = Arc::try_clone(&tapes)?;
         let committer = Committer::new(alloc, device, gate);
         let running = Running::new(alloc, &programs, shared, files, committer)?;
-        let booted = Booted {
-            programs,
-            tapes,
-            files: held,
-            disk,
-            gate,
-        };
+        let booted = share(
+            alloc,
+            Booted {
+                programs,
+                tapes,
+                files: held,
+                disk,
+                gate,
+            },
+        )?;
         let sums = Sums {
             turns: 0,
             enters: 0,
@@ -123,8 +126,8 @@ impl Core {
     }
 }
 
-fn share(alloc: Global, tapes: Vec<Bytes>) -> Result<Arc<Vec<Bytes>>, AllocError>
-    ensures { IfOk result (λ shared. shared.value ≡ tapes) }
+fn share<T: Drop>(alloc: Global, value: T) -> Result<Arc<T>, AllocError>
+    ensures { IfOk result (λ shared. shared.value ≡ value) }
 {
-    Ok(Arc::new(alloc, tapes)?)
+    Ok(Arc::new(alloc, value)?)
 }

@@ -23,7 +23,8 @@ pub(crate) struct Booted {
     pub tapes: Arc<Vec<Bytes>>,
     /// The files that the disk held.
     pub files: FileList,
-    pub disk: Bytes,
+    /// Shared with the device until a write to it is complete.
+    pub disk: Arc<Vec<u8>>,
     /// The place on the disk of the first gate that was not open.
     pub gate: u32,
 }
@@ -43,7 +44,8 @@ impl Drop for Booted {
 /// The core: processes, the history of the events that it accepted, and the disk to which the changes of files are on their way.
 /// The processes run on as on a kernel that commits inside each call.
 pub struct Core {
-    pub(crate) booted: Booted,
+    /// Shared with its copies.
+    pub(crate) booted: Arc<Booted>,
     pub(crate) running: Running,
     pub(crate) sums: Sums,
 }
@@ -70,9 +72,9 @@ impl Model for Core {
     ghost use Rattle.kernel.specs.Booting.{boot_of};
     ghost use Rattle.kernel.specs.Parts.{IsCore};
 
-    ghost view = { λ c. kernel_in (boot_of c.booted) c.running };
+    ghost view = { λ c. kernel_in (boot_of c.booted.value) c.running };
 
-    ghost invariant = { λ c. IsCore (boot_of c.booted) c.running c.sums };
+    ghost invariant = { λ c. IsCore (boot_of c.booted.value) c.running c.sums };
 }
 
 impl Core {

@@ -5,6 +5,7 @@
 mod applier;
 mod boot;
 mod causal_past;
+mod copying;
 mod cores;
 mod drain;
 mod halt;

@@ -1,6 +1,7 @@
 -- Lemmas.
 pub mod Applying
 pub mod Beginning
+pub mod SameParts
 pub mod Counting
 pub mod EnterCore
 pub mod EnterFine

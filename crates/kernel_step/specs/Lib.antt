@@ -2,6 +2,7 @@
 pub mod Advanced
 pub mod Booting
 pub mod Coning
+pub mod Copies
 pub mod Counted
 pub mod Entering
 pub mod First

@@ -23,12 +23,11 @@ use std::sync::Arc;
 fn is_lendable(task: &Task, served: u64, quantum: u32) -> bool
     ensures { result ≡ is_fit quantum served task.now }
 {
+    if task.trace.has_end() || task.is_out() {
+        return false;
+    }
     let count = task.machine().count();
-    !task.trace.has_end()
-        && !task.is_out()
-        && count < LIMIT
-        && count + u64::from(quantum) < LIMIT
-        && !task.is_asleep(served)
+    count < LIMIT && count + u64::from(quantum) < LIMIT && !task.is_asleep(served)
 }
 
 fn first_lendable(tasks: &[Task], served: u64, quantum: u32) -> Option<usize>
@@ -76,7 +75,7 @@ fn lend_task(alloc: Global, task: &mut Task, quantum: u32) -> Result<Loan, Refus
     let Whereabouts::Here(machine) = &mut task.whereabouts else {
         unreachable!()
     };
-    let began = machine.share(alloc)?;
+    let began = machine.share(alloc, task.loans == 0)?;
     let out = Whereabouts::Out {
         began: Arc::try_clone(&began)?,
         quantum,

@@ -6,6 +6,7 @@
 mod apply;
 mod booting;
 mod cones;
+mod copying;
 mod enter;
 mod finishing;
 mod lend;

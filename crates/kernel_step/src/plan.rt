@@ -189,4 +189,9 @@ impl EnterPlan {
             next,
         })
     }
+
+    /// Whether the process ends by it.
+    pub fn ends(&self) -> bool {
+        matches!(&self.plan.verdict, Verdict::Ends(_))
+    }
 }

@@ -1,5 +1,5 @@
 //! A machine in the kernel, with a replica of it.
-ghost use Rattle.std.specs.Prelude.{◌≡◌, ◌+◌, ◌≤◌, ◌^◌, IfOk, IfSome};
+ghost use Rattle.std.specs.Prelude.{◌≡◌, ◌+◌, ◌≤◌, ◌^◌, IfOk, IfErr, IfSome};
 ghost use Rattle.machine_model.specs.States.{State, run as run_from, reached_at};
 ghost use Rattle.machine_model.specs.Replies.{replied};
 ghost use Rattle.kernel_step.specs.Replicas.{MayBeReplied};
@@ -11,7 +11,7 @@ use std::alloc::{AllocError, Global};
 use std::marker::Model;
 use std::sync::Arc;
 
-/// The longest burst that a replica runs again. After a longer one the machine's pages are copied sooner than that.
+/// The longest burst that a replica runs again, which takes about what a copy of six pages takes.
 const LONGEST_REPLAY: u32 = 256;
 
 /// A machine in the kernel. Where it came back from a short burst it has a replica: the state from which that began, which ran the
@@ -45,7 +45,8 @@ impl Model for ReplicatedMachine {
 
 /// A machine that nobody else looks at goes on, for at most a quantum. Where somebody does it comes back as it was.
 fn run_again(mut machine: Arc<Machine>, quantum: u32) -> Result<Arc<Machine>, Arc<Machine>>
-    ensures { IfOk result (λ m. m.value ≡ (run_from quantum machine.value).state) }
+    ensures ran { IfOk result (λ m. m.value ≡ (run_from quantum machine.value).state) }
+    ensures same { IfErr result (λ m. m.value ≡ machine.value) }
 {
     let Some(own) = Arc::get_mut(&mut machine) else {
         return Err(machine);
@@ -121,15 +122,27 @@ impl ReplicatedMachine {
         self.machine.put(machine);
     }
 
-    /// The state from which its next loan begins: the replica, or else the machine, by `SharedMachine::share`.
-    pub fn share(&mut self, alloc: Global) -> Result<Arc<Machine>, AllocError>
+    /// The state from which its next loan begins: the replica, or else the machine, by `SharedMachine::share`. Before its first loan
+    /// a machine has no room for a copy. So it is copied here, and the machine itself goes on.
+    pub fn share(&mut self, alloc: Global, is_first: bool) -> Result<Arc<Machine>, AllocError>
         ensures same { self.new ≡ self.old }
         ensures share { IfOk result (λ m. m.value ≡ self.old) }
     {
-        match &self.replica {
-            Some(replica) => Arc::try_clone(replica),
-            None => self.machine.share(alloc),
+        if let Some(replica) = &self.replica {
+            return Arc::try_clone(replica);
         }
+        if is_first {
+            return self.copy(alloc);
+        }
+        self.machine.share(alloc)
+    }
+
+    /// A machine in the same state.
+    fn copy(&self, alloc: Global) -> Result<Arc<Machine>, AllocError>
+        ensures { IfOk result (λ m. m.value ≡ self.now) }
+    {
+        let machine = self.machine().try_clone(alloc)?;
+        Ok(Arc::new(alloc, machine)?)
     }
 
     /// As `Machine::run`. The pages of its replica become room for a copy.

@@ -48,8 +48,8 @@ fn is_of_loan(task: &Task, done: &Done, is_known: bool) -> bool
 }
 
 /// The process is back with the machine of this result. The state with which it was lent, which the task no longer shares, becomes
-/// the machine's replica, or room for a copy.
-fn come_back(task: &mut Task, done: Done)
+/// the machine's replica, or room for a copy. Where the process ends it goes, since no loan comes after this one.
+fn come_back(task: &mut Task, done: Done, is_last: bool)
     ensures back { IsBack done.machine task.old task.new }
     ensures trace { task.new.trace ≡ task.old.trace }
 {
@@ -61,6 +61,9 @@ fn come_back(task: &mut Task, done: Done)
         ..
     } = done;
     task.whereabouts = Whereabouts::Here(ReplicatedMachine::new(machine));
+    if is_last {
+        return;
+    }
     task.whereabouts.replicate(began, quantum, count);
 }
 
@@ -116,7 +119,7 @@ fn settle_enter(
     let (count, stop) = (done.count, done.stop);
     note_own(&mut system.dependencies, pid);
     history.push(Event::Turn { pid, n: count }).unwrap();
-    come_back(task, done);
+    come_back(task, done, entering.ends());
     let (outcome, child) = carry_out(history, system, task, entering);
     let answer = Answer::Settled {
         count,
@@ -189,7 +192,7 @@ impl Running {
         }
         let (pid, count, stop) = (done.pid, done.count, done.stop);
         note_own(&mut self.system.dependencies, pid);
-        come_back(&mut self.tasks[place], done);
+        come_back(&mut self.tasks[place], done, false);
         self.out -= 1;
         self.history.push(Event::Turn { pid, n: count }).unwrap();
         self.ran += u64::from(count);

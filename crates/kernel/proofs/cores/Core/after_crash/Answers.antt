@@ -13,7 +13,7 @@ use Rattle.kernel.proofs.cores.Core.after_crash.Goals.{After-after_crash}
 
 device-is : (c : After-after_crash) → IfOk c.after_crash.result (λ (d : Device). d ≡ quiet (crashed (now c.args.self.now).storage.device c.args.fill.now))
 device-is c =
-    IfOk-weaker c.after_crash.result _ _ (λ d all. all (boot_of c.self.inside.booted) c.self.invariant.stands
+    IfOk-weaker c.after_crash.result _ _ (λ d all. all (boot_of c.self.inside.booted.value) c.self.invariant.stands
     ∙ ap (λ (k : Kernel). quiet (crashed (now k).storage.device c.args.fill.now)) c.self.view_is) c.after_crash.ensures
 
 left-by : (c : After-after_crash) (d : Device) → d ≡ quiet (crashed (now c.args.self.now).storage.device c.args.fill.now) → MayLeave (now c.args.self.now) d.disk

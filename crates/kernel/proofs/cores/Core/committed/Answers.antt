@@ -5,4 +5,4 @@ use Rattle.kernel.specs.Booting.{boot_of}
 use Rattle.kernel.proofs.cores.Core.committed.Goals as goal
 
 pub returns : goal.returns
-returns c = c.committed.ensures (boot_of c.self.inside.booted) c.self.invariant.stands ∙ ap (λ (k : Kernel). committed (now k)) c.self.view_is
+returns c = c.committed.ensures (boot_of c.self.inside.booted.value) c.self.invariant.stands ∙ ap (λ (k : Kernel). committed (now k)) c.self.view_is

@@ -10,11 +10,11 @@ use Rattle.kernel.specs.Booting.{boot_of}
 use Rattle.kernel.proofs.cores.Core.cone.Goals as goal
 
 pub cone-requires : goal.cone-requires
-cone-requires c = (boot_of c.self.inside.booted, c.self.invariant.stands)
+cone-requires c = (boot_of c.self.inside.booted.value, c.self.invariant.stands)
 
 pub returns-clause-numbers : goal.returns-clause-numbers
 returns-clause-numbers c =
-    IfOk-weaker c.cone.result _ _ (λ numbers all. all (boot_of c.self.inside.booted) c.self.invariant.stands ∙ ap (λ (k : Kernel). cone (now k) c.args.n) c.self.view_is)
+    IfOk-weaker c.cone.result _ _ (λ numbers all. all (boot_of c.self.inside.booted.value) c.self.invariant.stands ∙ ap (λ (k : Kernel). cone (now k) c.args.n) c.self.view_is)
     c.cone.ensures.numbers
 
 pub returns-clause-there : goal.returns-clause-there

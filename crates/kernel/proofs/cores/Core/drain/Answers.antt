@@ -13,7 +13,7 @@ pub returns-then-has_failed-clause-drained : goal.returns-then-has_failed-clause
 returns-then-has_failed-clause-drained c =
     drain-failed c.args.self.now
     (ap (λ (k : Kernel). not (is_empty (now k).storage.device.failed)) (sym c.self.view_is)
-    ∙ sym (c.has_failed.ensures (boot_of c.self.inside.booted) c.self.invariant.stands) ∙ c.if-has_failed.true)
+    ∙ sym (c.has_failed.ensures (boot_of c.self.inside.booted.value) c.self.invariant.stands) ∙ c.if-has_failed.true)
 
 pub loop-self-preserved : goal.loop-self-preserved
 loop-self-preserved c =

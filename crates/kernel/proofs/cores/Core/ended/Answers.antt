@@ -9,15 +9,15 @@ use Rattle.kernel.proofs.cores.Core.ended.Goals as goal
 
 pub returns-clause-status : goal.returns-clause-status
 returns-clause-status c =
-    IfOk-weaker c.ended.result _ _ (λ status all. all (boot_of c.self.inside.booted) c.self.invariant.stands ∙ ap (λ (k : Kernel). end_in (handed (now k) c.args.pid)) c.self.view_is)
+    IfOk-weaker c.ended.result _ _ (λ status all. all (boot_of c.self.inside.booted.value) c.self.invariant.stands ∙ ap (λ (k : Kernel). end_in (handed (now k) c.args.pid)) c.self.view_is)
     c.ended.ensures.status
 
 pub returns-clause-there : goal.returns-clause-there
 returns-clause-there c =
-    on_ok_weaker c.ended.result (λ all. subst (λ (k : Kernel). is_some (process_of k c.args.pid) ≡ true) c.self.view_is (all (boot_of c.self.inside.booted) c.self.invariant.stands))
+    on_ok_weaker c.ended.result (λ all. subst (λ (k : Kernel). is_some (process_of k c.args.pid) ≡ true) c.self.view_is (all (boot_of c.self.inside.booted.value) c.self.invariant.stands))
     c.ended.ensures.there
 
 pub returns-clause-none : goal.returns-clause-none
 returns-clause-none c =
     IfErr-weaker c.ended.result _ _ (λ why all. subst (λ (k : Kernel). (why ≡ NoProcess) × (process_of k c.args.pid ≡ None)) c.self.view_is
-    (all (boot_of c.self.inside.booted) c.self.invariant.stands)) c.ended.ensures.none
+    (all (boot_of c.self.inside.booted.value) c.self.invariant.stands)) c.ended.ensures.none

@@ -8,4 +8,4 @@ use Rattle.kernel.proofs.cores.Core.footprints.Goals as goal
 pub returns : goal.returns
 returns c =
     subst (λ (k : Kernel). AreFootprints k.history (now k).log c.footprints.result.now.footprints) c.self.view_is
-    (c.footprints.ensures (boot_of c.self.inside.booted) c.self.invariant.stands)
+    (c.footprints.ensures (boot_of c.self.inside.booted.value) c.self.invariant.stands)

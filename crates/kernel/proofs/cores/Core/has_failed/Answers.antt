@@ -8,5 +8,5 @@ use Rattle.kernel.proofs.cores.Core.has_failed.Goals as goal
 
 pub returns : goal.returns
 returns c =
-    c.has_failed.ensures (boot_of c.self.inside.booted) c.self.invariant.stands
+    c.has_failed.ensures (boot_of c.self.inside.booted.value) c.self.invariant.stands
     ∙ ap (λ (k : Kernel). not (is_empty (now k).storage.device.failed)) c.self.view_is

@@ -9,4 +9,4 @@ use Rattle.kernel.proofs.cores.Core.has_lendings.Goals as goal
 pub returns : goal.returns
 returns c =
     subst (λ (k : Kernel). length k.lendings ≡ length (now k).sync.processes) c.self.view_is
-    (lendings-each c.self.inside.running.tasks.items (now (kernel_in (boot_of c.self.inside.booted) c.self.inside.running)).sync.processes c.self.invariant.stands.parts.mirrors.each.processes)
+    (lendings-each c.self.inside.running.tasks.items (now (kernel_in (boot_of c.self.inside.booted.value) c.self.inside.running)).sync.processes c.self.invariant.stands.parts.mirrors.each.processes)

@@ -5,4 +5,4 @@ use Rattle.kernel.specs.Booting.{boot_of}
 use Rattle.kernel.proofs.cores.Core.in_flight.Goals as goal
 
 pub returns : goal.returns
-returns c = c.in_flight.ensures (boot_of c.self.inside.booted) c.self.invariant.stands ∙ ap (λ (k : Kernel). in_flight (now k)) c.self.view_is
+returns c = c.in_flight.ensures (boot_of c.self.inside.booted.value) c.self.invariant.stands ∙ ap (λ (k : Kernel). in_flight (now k)) c.self.view_is

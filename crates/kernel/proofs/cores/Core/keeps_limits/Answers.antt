@@ -9,6 +9,6 @@ use Rattle.kernel.proofs.cores.Core.keeps_limits.Goals as goal
 pub returns : goal.returns
 returns c =
     subst (λ (k : Kernel). KeepsLimits k) c.self.view_is
-    (core-keeps (boot_of c.self.inside.booted) c.self.inside.running c.self.inside.sums c.self.invariant c.ran-ran.result
-    (c.ran-ran.ensures.sum (boot_of c.self.inside.booted) c.self.invariant.stands) (c.ran-ran.ensures.few (boot_of c.self.inside.booted) c.self.invariant.stands)
-    (c.groups_in_flight.ensures.among (boot_of c.self.inside.booted) c.self.inside.running.history.items))
+    (core-keeps (boot_of c.self.inside.booted.value) c.self.inside.running c.self.inside.sums c.self.invariant c.ran-ran.result
+    (c.ran-ran.ensures.sum (boot_of c.self.inside.booted.value) c.self.invariant.stands) (c.ran-ran.ensures.few (boot_of c.self.inside.booted.value) c.self.invariant.stands)
+    (c.groups_in_flight.ensures.among (boot_of c.self.inside.booted.value) c.self.inside.running.history.items))

@@ -9,14 +9,14 @@ use Rattle.kernel.proofs.Parts.{lent-core}
 use Rattle.kernel.proofs.cores.Core.lend.Goals as goal
 
 pub lend-requires : goal.lend-requires
-lend-requires c = (boot_of c.self.inside.booted, c.self.invariant.stands)
+lend-requires c = (boot_of c.self.inside.booted.value, c.self.invariant.stands)
 
 pub invariant_of-self : goal.invariant_of-self
 invariant_of-self c =
-    lent-core (boot_of c.self.inside.booted) c.self.inside.running c.lend.new.self c.self.inside.sums c.args.quantum (lent_out c.lend.result) c.self.invariant
-    (c.lend.ensures.stands (boot_of c.self.inside.booted) c.self.invariant.stands) (c.lend.ensures.lends (boot_of c.self.inside.booted) c.self.invariant.stands)
+    lent-core (boot_of c.self.inside.booted.value) c.self.inside.running c.lend.new.self c.self.inside.sums c.args.quantum (lent_out c.lend.result) c.self.invariant
+    (c.lend.ensures.stands (boot_of c.self.inside.booted.value) c.self.invariant.stands) (c.lend.ensures.lends (boot_of c.self.inside.booted.value) c.self.invariant.stands)
 
 pub returns : goal.returns
 returns c =
-    subst (λ (k : Kernel). Lends k c.args.quantum (kernel_in (boot_of c.self.inside.booted) c.lend.new.self) (lent_out c.lend.result)) c.self.view_is
-    (c.lend.ensures.lends (boot_of c.self.inside.booted) c.self.invariant.stands)
+    subst (λ (k : Kernel). Lends k c.args.quantum (kernel_in (boot_of c.self.inside.booted.value) c.lend.new.self) (lent_out c.lend.result)) c.self.view_is
+    (c.lend.ensures.lends (boot_of c.self.inside.booted.value) c.self.invariant.stands)

@@ -11,9 +11,9 @@ use Rattle.kernel.proofs.cores.Core.machine.Goals as goal
 pub returns-clause-machine : goal.returns-clause-machine
 returns-clause-machine c =
     IfOk-weaker c.machine.result _ _ (λ machine all. subst (λ (k : Kernel). IsSomeAnd (process_of k c.args.pid) (λ (p : Process). machine.now ≡ p.state)) c.self.view_is
-    (all (boot_of c.self.inside.booted) c.self.invariant.stands)) c.machine.ensures.machine
+    (all (boot_of c.self.inside.booted.value) c.self.invariant.stands)) c.machine.ensures.machine
 
 pub returns-clause-none : goal.returns-clause-none
 returns-clause-none c =
     IfErr-weaker c.machine.result _ _ (λ why all. subst (λ (k : Kernel). (why ≡ NoProcess) × (process_of k c.args.pid ≡ None)) c.self.view_is
-    (all (boot_of c.self.inside.booted) c.self.invariant.stands)) c.machine.ensures.none
+    (all (boot_of c.self.inside.booted.value) c.self.invariant.stands)) c.machine.ensures.none

@@ -6,4 +6,4 @@ use Rattle.kernel.specs.Booting.{boot_of}
 use Rattle.kernel.proofs.cores.Core.over.Goals as goal
 
 pub returns : goal.returns
-returns c = c.over.ensures (boot_of c.self.inside.booted) c.self.invariant.stands ∙ ap (λ (k : Kernel). is_over k c.args.quantum) c.self.view_is
+returns c = c.over.ensures (boot_of c.self.inside.booted.value) c.self.invariant.stands ∙ ap (λ (k : Kernel). is_over k c.args.quantum) c.self.view_is

@@ -5,4 +5,4 @@ use Rattle.kernel.specs.Booting.{boot_of}
 use Rattle.kernel.proofs.cores.Core.ran.Goals as goal
 
 pub returns : goal.returns
-returns c = c.ran.ensures.sum (boot_of c.self.inside.booted) c.self.invariant.stands ∙ ap ran_by_turns c.self.view_is
+returns c = c.ran.ensures.sum (boot_of c.self.inside.booted.value) c.self.invariant.stands ∙ ap ran_by_turns c.self.view_is

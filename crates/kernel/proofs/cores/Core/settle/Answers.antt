@@ -8,14 +8,14 @@ use Rattle.kernel.proofs.Parts.{settled-core}
 use Rattle.kernel.proofs.cores.Core.settle.Goals as goal
 
 pub settle-result-requires : goal.settle-result-requires
-settle-result-requires c = (boot_of c.self.inside.booted, c.self.invariant.stands)
+settle-result-requires c = (boot_of c.self.inside.booted.value, c.self.invariant.stands)
 
 pub invariant_of-self : goal.invariant_of-self
 invariant_of-self c =
-    settled-core (boot_of c.self.inside.booted) c.self.inside.running c.settle-result.new.self c.self.inside.sums c.add_loan.new.self c.args.done c.settle-result.result
-    c.self.invariant (c.settle-result.ensures (boot_of c.self.inside.booted) c.self.invariant.stands) c.add_loan.ensures.turns c.add_loan.ensures.enters c.add_loan.ensures.same
+    settled-core (boot_of c.self.inside.booted.value) c.self.inside.running c.settle-result.new.self c.self.inside.sums c.add_loan.new.self c.args.done c.settle-result.result
+    c.self.invariant (c.settle-result.ensures (boot_of c.self.inside.booted.value) c.self.invariant.stands) c.add_loan.ensures.turns c.add_loan.ensures.enters c.add_loan.ensures.same
 
 pub returns : goal.returns
 returns c =
-    subst (λ (k : Kernel). Settles k c.args.done (kernel_in (boot_of c.self.inside.booted) c.settle-result.new.self) c.settle-result.result) c.self.view_is
-    (c.settle-result.ensures (boot_of c.self.inside.booted) c.self.invariant.stands).settles
+    subst (λ (k : Kernel). Settles k c.args.done (kernel_in (boot_of c.self.inside.booted.value) c.settle-result.new.self) c.settle-result.result) c.self.view_is
+    (c.settle-result.ensures (boot_of c.self.inside.booted.value) c.self.invariant.stands).settles

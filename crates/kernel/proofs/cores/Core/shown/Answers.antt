@@ -6,7 +6,7 @@ use Rattle.kernel.specs.Booting.{boot_of}
 use Rattle.kernel.proofs.cores.Core.shown.Goals as goal
 
 pub shown-requires-clause-kept : goal.shown-requires-clause-kept
-shown-requires-clause-kept c = (boot_of c.self.inside.booted, c.self.invariant.stands)
+shown-requires-clause-kept c = (boot_of c.self.inside.booted.value, c.self.invariant.stands)
 
 pub returns : goal.returns
-returns c = c.shown.ensures (boot_of c.self.inside.booted) c.self.invariant.stands ∙ ap (λ (k : Kernel). shown (now k) c.args.terminal) c.self.view_is
+returns c = c.shown.ensures (boot_of c.self.inside.booted.value) c.self.invariant.stands ∙ ap (λ (k : Kernel). shown (now k) c.args.terminal) c.self.view_is

@@ -9,4 +9,4 @@ use Rattle.kernel.proofs.cores.Core.tables.Goals as goal
 pub returns : goal.returns
 returns c =
     subst (λ (k : Kernel). IsSightOf (now k).sync (sight_of c.tables.result)) c.self.view_is
-    (c.tables.ensures (boot_of c.self.inside.booted) c.self.invariant.stands)
+    (c.tables.ensures (boot_of c.self.inside.booted.value) c.self.invariant.stands)

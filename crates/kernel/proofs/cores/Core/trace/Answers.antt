@@ -9,15 +9,15 @@ use Rattle.kernel.proofs.cores.Core.trace.Goals as goal
 
 pub returns-clause-replies : goal.returns-clause-replies
 returns-clause-replies c =
-    IfOk-weaker c.trace.result _ _ (λ rs all. all (boot_of c.self.inside.booted) c.self.invariant.stands ∙ ap (λ (k : Kernel). replies_in (handed (now k) c.args.pid)) c.self.view_is)
+    IfOk-weaker c.trace.result _ _ (λ rs all. all (boot_of c.self.inside.booted.value) c.self.invariant.stands ∙ ap (λ (k : Kernel). replies_in (handed (now k) c.args.pid)) c.self.view_is)
     c.trace.ensures.replies
 
 pub returns-clause-there : goal.returns-clause-there
 returns-clause-there c =
-    on_ok_weaker c.trace.result (λ all. subst (λ (k : Kernel). is_some (process_of k c.args.pid) ≡ true) c.self.view_is (all (boot_of c.self.inside.booted) c.self.invariant.stands))
+    on_ok_weaker c.trace.result (λ all. subst (λ (k : Kernel). is_some (process_of k c.args.pid) ≡ true) c.self.view_is (all (boot_of c.self.inside.booted.value) c.self.invariant.stands))
     c.trace.ensures.there
 
 pub returns-clause-none : goal.returns-clause-none
 returns-clause-none c =
     IfErr-weaker c.trace.result _ _ (λ why all. subst (λ (k : Kernel). (why ≡ NoProcess) × (process_of k c.args.pid ≡ None)) c.self.view_is
-    (all (boot_of c.self.inside.booted) c.self.invariant.stands)) c.trace.ensures.none
+    (all (boot_of c.self.inside.booted.value) c.self.invariant.stands)) c.trace.ensures.none

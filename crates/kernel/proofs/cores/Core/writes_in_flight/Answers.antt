@@ -5,4 +5,4 @@ use Rattle.kernel.specs.Booting.{boot_of}
 use Rattle.kernel.proofs.cores.Core.writes_in_flight.Goals as goal
 
 pub returns : goal.returns
-returns c = c.writes_in_flight.ensures (boot_of c.self.inside.booted) c.self.invariant.stands ∙ ap (λ (k : Kernel). (now k).storage.device.in_flight) c.self.view_is
+returns c = c.writes_in_flight.ensures (boot_of c.self.inside.booted.value) c.self.invariant.stands ∙ ap (λ (k : Kernel). (now k).storage.device.in_flight) c.self.view_is

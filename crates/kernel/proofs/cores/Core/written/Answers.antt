@@ -7,9 +7,9 @@ use Rattle.kernel.specs.Booting.{boot_of}
 use Rattle.kernel.proofs.cores.Core.written.Goals as goal
 
 pub written-requires-clause-kept : goal.written-requires-clause-kept
-written-requires-clause-kept c = (boot_of c.self.inside.booted, c.self.invariant.stands)
+written-requires-clause-kept c = (boot_of c.self.inside.booted.value, c.self.invariant.stands)
 
 pub returns : goal.returns
 returns c =
-    c.written.ensures (boot_of c.self.inside.booted) c.self.invariant.stands
+    c.written.ensures (boot_of c.self.inside.booted.value) c.self.invariant.stands
     ∙ ap (λ (k : Kernel). contents (printed c.args.terminal (now k).log)) c.self.view_is
