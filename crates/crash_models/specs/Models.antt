@@ -16,6 +16,10 @@ at_moment files changes t = numbered_after files (take t changes)
 abbrev pub number_named : Numbered → List ℕ → Option ℕ
 number_named files name = at_place files.numbers (place_named files.living name)
 
+-- the file of this name
+abbrev pub file_named : List NamedFile → List ℕ → Option NamedFile
+file_named files name = at_place files (place_named files name)
+
 -- the bytes of a file that may be there; none where there is no file
 abbrev pub bytes_of : Option NamedFile → List ℕ
 bytes_of None = []
