@@ -1,4 +1,5 @@
 //! The command `crashes`, and its options.
+use crate::explore_options::OrderBounds;
 use crate::numbers::number_of;
 use crate::rows::{CommandKind, CommandRow};
 use crate::run_options::{ImagePaths, paths_named, small_number};
@@ -55,6 +56,12 @@ impl CrashPart {
     }
 }
 
+/// How many instructions a process runs at most from one call to the next where orders of calls are tried, and `--limit` does not say it.
+const INSTRUCTIONS: u32 = 1_000_000;
+
+/// The greatest such number.
+const MOST_INSTRUCTIONS: u64 = 2_147_483_647;
+
 /// Whose crashes are tried, and how.
 #[derive(Drop)]
 pub struct CrashOptions<'a> {
@@ -70,6 +77,8 @@ pub struct CrashOptions<'a> {
     pub model: ModelName,
     /// By another rule than bench's, the most cells that are not as at one moment.
     pub apart: u32,
+    /// How far all orders of calls are searched; None where only those of one run are tried.
+    pub orders: Option<OrderBounds>,
     /// How many crashes of recoveries may come one after the other.
     pub nested: u32,
     /// The folder into which scripts of the first recovery that fails are written, if there is one.
@@ -97,6 +106,9 @@ pub const CRASHES: CommandRow = CommandRow {
         "--recover <PROGRAM>: run this program on what each crash leaves: it has to end with status 0",
         "--model <NAME>: the rule of what a crash may leave: bench, ordered, delayed or posix",
         "--apart <D>: by another rule than bench, the most cells that are not as at one moment, 0 to 99",
+        "--all-orders: run the recovery on what is left by crashes of every order of the programs' calls",
+        "--most-states <N>: with --all-orders, how many states may be found before the search is cut, 1 to 4294967295",
+        "--most-calls <N>: with --all-orders, how many calls an order may have before the search is cut, 1 to 4294967295",
         "--nested <N>: how many crashes of the recovery may come one after the other, 0 to 8",
         "--save <FOLDER>: write the first recovery that fails as scripts into a folder",
         "--limit <N>: the most instructions of the programs, and of each recovery",
@@ -108,6 +120,8 @@ pub const CRASHES: CommandRow = CommandRow {
     ],
     numbers: &[
         ("apart", 0, 99, Some("2")),
+        ("most-states", 1, 4_294_967_295, Some("1000000")),
+        ("most-calls", 1, 4_294_967_295, Some("10000")),
         ("nested", 0, 8, Some("1")),
         ("limit", 1, u64::MAX, Some("100000000")),
         ("jobs", 1, 256, None),
@@ -127,8 +141,41 @@ fn model_of(matches: &ArgMatches<'_>) -> Option<ModelName> {
     }
 }
 
+/// The first option that needs all orders.
+fn needs_orders(matches: &ArgMatches<'_>) -> Option<&'static str> {
+    if is_given(matches, "most-states") {
+        return Some("'--most-states <N>' needs '--all-orders'");
+    }
+    if is_given(matches, "most-calls") {
+        return Some("'--most-calls <N>' needs '--all-orders'");
+    }
+    None
+}
+
+/// Why an option needs another rule than bench's, or cannot be used with one.
+fn rule_conflict(matches: &ArgMatches<'_>) -> Option<&'static str> {
+    if model_of(matches) == Some(ModelName::Bench) {
+        if is_given(matches, "apart") {
+            return Some("'--apart <D>' needs '--model <NAME>', another than bench");
+        }
+        return None;
+    }
+    if matches.get_str("expect").is_some() {
+        return Some("the argument '--expect <FILE>' cannot be used with '--model <NAME>'");
+    }
+    if matches.get_flag("all-orders") {
+        return Some(
+            "the argument '--all-orders' cannot be used with '--model <NAME>', another than bench",
+        );
+    }
+    None
+}
+
 /// The first option that needs a recovery.
 fn needs_recovery(matches: &ArgMatches<'_>) -> Option<&'static str> {
+    if matches.get_flag("all-orders") {
+        return Some("'--all-orders' needs '--recover <PROGRAM>'");
+    }
     if is_given(matches, "nested") {
         return Some("'--nested <N>' needs '--recover <PROGRAM>'");
     }
@@ -149,20 +196,19 @@ fn needs_recovery(matches: &ArgMatches<'_>) -> Option<&'static str> {
 
 /// Why options of `crashes` do not go together, if they do not.
 pub fn crash_conflict(matches: &ArgMatches<'_>) -> Option<&'static str> {
-    if is_given(matches, "apart") && model_of(matches) == Some(ModelName::Bench) {
-        return Some("'--apart <D>' needs '--model <NAME>', another than bench");
+    if let Some(message) = rule_conflict(matches) {
+        return Some(message);
     }
-    let is_expected = matches.get_str("expect").is_some();
-    if is_expected && model_of(matches) != Some(ModelName::Bench) {
-        return Some("the argument '--expect <FILE>' cannot be used with '--model <NAME>'");
+    if matches.get_str("recover").is_none() {
+        return needs_recovery(matches).or(needs_orders(matches));
     }
-    match matches.get_str("recover") {
-        Some(_) if is_expected => {
-            Some("the argument '--expect <FILE>' cannot be used with '--recover <PROGRAM>'")
-        }
-        Some(_) => None,
-        None => needs_recovery(matches),
+    if matches.get_str("expect").is_some() {
+        return Some("the argument '--expect <FILE>' cannot be used with '--recover <PROGRAM>'");
     }
+    if matches.get_flag("all-orders") {
+        return None;
+    }
+    needs_orders(matches)
 }
 
 /// What is wrong with the first value that is none of its option, if one is.
@@ -182,6 +228,27 @@ pub fn crash_fault(alloc: Global, matches: &ArgMatches<'_>) -> Result<Option<Str
         )?));
     }
     Ok(None)
+}
+
+/// How many instructions a process runs at most from one call to the next.
+fn instructions_of(matches: &ArgMatches<'_>) -> Option<u32> {
+    if is_given(matches, "limit") {
+        let limit = number_of(matches, "limit")?;
+        return u32::try_from(limit.min(MOST_INSTRUCTIONS)).ok();
+    }
+    Some(INSTRUCTIONS)
+}
+
+/// How far all orders are searched, if they are.
+fn orders_of(matches: &ArgMatches<'_>) -> Option<OrderBounds> {
+    if !matches.get_flag("all-orders") {
+        return None;
+    }
+    Some(OrderBounds {
+        instructions: instructions_of(matches)?,
+        states: number_of(matches, "most-states")?,
+        calls: number_of(matches, "most-calls")?,
+    })
 }
 
 /// The options of the command. None where there are more than 8 programs, or an argument is missing.
@@ -206,6 +273,7 @@ pub fn crash_options<'a>(
         recover: matches.get_str("recover"),
         model,
         apart,
+        orders: orders_of(matches),
         nested,
         save: matches.get_str("save"),
         limit,

@@ -18,6 +18,17 @@ pub struct PartNumbers {
     pub of: u64,
 }
 
+/// How far orders of calls are searched.
+#[derive(Clone, Copy)]
+pub struct OrderBounds {
+    /// How many instructions a process runs at most to its next call.
+    pub instructions: u32,
+    /// No further level is searched where more states were found.
+    pub states: u64,
+    /// No further level is searched either where so many calls lead to the states of the last.
+    pub calls: u64,
+}
+
 /// What is explored, and how far; or that parts are put together.
 #[derive(Drop)]
 pub struct ExploreOptions<'a> {
@@ -31,10 +42,8 @@ pub struct ExploreOptions<'a> {
     pub expect: Option<&'a str>,
     /// The folder into which a script of each outcome is written, if there is one.
     pub save: Option<&'a str>,
-    /// How many instructions a process runs at most to its next call.
-    pub instructions: u32,
-    /// No further level is searched where more states were found.
-    pub states: u64,
+    /// How far it is searched.
+    pub bounds: OrderBounds,
     /// How many threads search; None: as many as there are processors.
     pub jobs: Option<u32>,
     /// Whether it is told how far the search has come.
@@ -54,6 +63,7 @@ pub const EXPLORE: CommandRow = CommandRow {
         "--save <FOLDER>: write a script of each outcome into a folder",
         "--limit <N>: the most instructions that a process runs to its next call, 1 to 2147483647",
         "--most-states <N>: how many states may be found before the search is cut, 1 to 4294967295",
+        "--most-calls <N>: how many calls an order may have before the search is cut, 1 to 4294967295",
         "--jobs <N>: how many threads search, 1 to 256; as many as there are processors, if it is not given",
         "--progress: say once a second how far the search has come",
         "--part <I/N>: search part I of N alone, and print its file; N is at most 9999",
@@ -62,6 +72,7 @@ pub const EXPLORE: CommandRow = CommandRow {
     numbers: &[
         ("limit", 1, 2_147_483_647, Some("1000000")),
         ("most-states", 1, 4_294_967_295, Some("1000000")),
+        ("most-calls", 1, 4_294_967_295, Some("10000")),
         ("jobs", 1, 256, None),
     ],
 };
@@ -96,11 +107,12 @@ static NOT_WITH_PART: [(&str, &str); 2] = [
 ];
 
 /// What parts cannot be put together with, since nothing is searched.
-static NOT_WITH_MERGE: [(&str, &str); 6] = [
+static NOT_WITH_MERGE: [(&str, &str); 7] = [
     ("part", "--part <I/N>"),
     ("save", "--save <FOLDER>"),
     ("limit", "--limit <N>"),
     ("most-states", "--most-states <N>"),
+    ("most-calls", "--most-calls <N>"),
     ("jobs", "--jobs <N>"),
     ("progress", "--progress"),
 ];
@@ -139,6 +151,15 @@ fn paths_of<'a>(
     Ok(Some(Vec::from_slice(alloc, paths)?))
 }
 
+/// How far it is searched. None where a number is missing.
+fn bounds_of(matches: &ArgMatches<'_>) -> Option<OrderBounds> {
+    Some(OrderBounds {
+        instructions: small_number(matches, "limit")?,
+        states: number_of(matches, "most-states")?,
+        calls: number_of(matches, "most-calls")?,
+    })
+}
+
 /// The options of the command. None where there are more than 8 programs, or an argument is missing.
 pub fn explore_options<'a>(
     alloc: Global,
@@ -147,10 +168,7 @@ pub fn explore_options<'a>(
     let Some(programs) = paths_of(alloc, matches)? else {
         return Ok(None);
     };
-    let (Some(instructions), Some(states)) = (
-        small_number(matches, "limit"),
-        number_of(matches, "most-states"),
-    ) else {
+    let Some(bounds) = bounds_of(matches) else {
         return Ok(None);
     };
     Ok(Some(ExploreOptions {
@@ -159,8 +177,7 @@ pub fn explore_options<'a>(
         part: matches.get_str("part").and_then(part_of),
         expect: matches.get_str("expect"),
         save: matches.get_str("save"),
-        instructions,
-        states,
+        bounds,
         jobs: small_number(matches, "jobs"),
         progress: matches.get_flag("progress"),
     }))

@@ -23,7 +23,7 @@ pub use crash_options::{CrashOptions, CrashPart, ModelName};
 pub use debug_options::LiveOptions;
 pub use disk_command::DiskTask;
 pub use exec_options::ExecOptions;
-pub use explore_options::{ExploreOptions, PartNumbers};
+pub use explore_options::{ExploreOptions, OrderBounds, PartNumbers};
 pub use gdb_options::GdbOptions;
 pub use parsing::{Arguments, parse};
 pub use run_options::{ImagePaths, RunNumbers, RunOptions};

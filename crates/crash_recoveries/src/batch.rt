@@ -2,8 +2,8 @@
 ghost use Rattle.std.specs.Prelude.{◌≡◌, MatchOption, vec_len};
 
 use crate::nested::NestedCrash;
-use crate::pending::{Job, Pending};
-use crate::point::{Chain, with_crash};
+use crate::pending::{Job, Pending, Tally};
+use crate::point::{CrashPoint, with_crash};
 use crate::running::Ran;
 use crate::tried::Tried;
 use std::alloc::{AllocError, Global};
@@ -37,6 +37,12 @@ fn first_jobs(alloc: Global, disks: usize) -> Result<Vec<Job>, AllocError> {
     Ok(jobs)
 }
 
+/// How many crashes of recoveries may come after one more than these.
+fn more_after(chain: &[CrashPoint], nested: u32) -> u32 {
+    let before = u32::try_from(chain.len()).unwrap_or(u32::MAX);
+    nested.saturating_sub(before).saturating_sub(1)
+}
+
 impl Batch {
     /// Before any recovery.
     pub fn new(alloc: Global, disks: Vec<Pending>, seen: Vec<Seen>) -> Result<Batch, AllocError> {
@@ -61,41 +67,73 @@ impl Batch {
     /// Counts a recovery, and its crashes.
     fn count(&mut self, disk: usize, crashes: u64) {
         if let Some(disk) = self.disks.get_mut(disk) {
-            let tried = disk.tried;
-            disk.tried.crashes = tried.crashes.saturating_add(crashes);
-            disk.tried.recoveries = tried.recoveries.saturating_add(1);
+            disk.tried = disk.tried.with(Tally {
+                crashes,
+                recoveries: 1,
+                others: 0,
+            });
         }
     }
 
-    /// Adds a recovery after each crash of one, where its disk is new with the promise.
+    /// Whether a disk to which one of these led is new with its promise, where so many crashes of recoveries may still come.
+    fn is_new(
+        &self,
+        alloc: Global,
+        disk: usize,
+        digest: &str,
+        more: u32,
+        tried: &mut Tried,
+    ) -> Result<bool, AllocError> {
+        match self.disks.get(disk) {
+            Some(disk) => tried.add(alloc, digest, disk.promise.digest.as_str(), more),
+            None => Ok(false),
+        }
+    }
+
+    /// Adds a recovery after a crash of one, where its disk is new with the promise.
     fn follow(
         &mut self,
         alloc: Global,
         job: &Job,
-        left: Vec<NestedCrash>,
+        crash: NestedCrash,
         nested: u32,
         tried: &mut Tried,
     ) -> Result<(), AllocError> {
-        let Some(disk) = self.disks.get(job.disk) else {
-            return Ok(());
-        };
-        let before = u32::try_from(job.chain.len()).unwrap_or(u32::MAX);
-        let more = nested.saturating_sub(before).saturating_sub(1);
-        for NestedCrash { point, digest } in left {
-            let promise = disk.promise.digest.as_str();
-            if tried.add(alloc, digest.as_str(), promise, more)? {
-                let chain: Chain = with_crash(alloc, job.chain.as_slice(), point)?;
-                self.jobs.push(Job {
-                    disk: job.disk,
-                    chain,
-                })?;
-            }
-            self.seen.push(Seen {
-                digest,
-                disk: job.disk,
-            })?;
+        let NestedCrash { point, digest } = crash;
+        let (disk, chain) = (job.disk, job.chain.as_slice());
+        if self.is_new(
+            alloc,
+            disk,
+            digest.as_str(),
+            more_after(chain, nested),
+            tried,
+        )? {
+            let chain = with_crash(alloc, chain, point)?;
+            self.jobs.push(Job { disk, chain })?;
         }
+        self.seen.push(Seen { digest, disk })?;
         Ok(())
+    }
+
+    /// Takes what came of a recovery. Whether it failed.
+    fn take(
+        &mut self,
+        alloc: Global,
+        job: &Job,
+        ran: Ran,
+        nested: u32,
+        tried: &mut Tried,
+    ) -> Result<bool, AllocError> {
+        let Ran {
+            has_failed,
+            crashes,
+            left,
+        } = ran;
+        self.count(job.disk, crashes);
+        for crash in left {
+            self.follow(alloc, job, crash, nested, tried)?;
+        }
+        Ok(has_failed)
     }
 
     /// Takes what came of the recoveries that were to be run, in their order, up to the first that failed. Those that are to be run next
@@ -110,14 +148,7 @@ impl Batch {
         let mut jobs = Vec::new(alloc);
         jobs.append(&mut self.jobs)?;
         for (job, ran) in jobs.into_iter().zip(all) {
-            let Ran {
-                has_failed,
-                crashes,
-                left,
-            } = ran;
-            self.count(job.disk, crashes);
-            self.follow(alloc, &job, left, nested, tried)?;
-            if has_failed {
+            if self.take(alloc, &job, ran, nested, tried)? {
                 self.failed = Some(job);
                 break;
             }

@@ -3,7 +3,8 @@
 //! Read `explore` first, which prints what crashes leave, and then `try_recoveries`. That runs the recovery on each disk that a crash
 //! leaves, and also after crashes of the recovery itself. A `Trier` visits the run, or a `WindowTrier` by other rules of commits; what
 //! they find a `Taker` takes. Their `Tester` has threads (`crew`) run recoveries, a `Batch` together, which `Nested` visits; each tries
-//! crashes on a `Mirror` of the disk. The first recovery that fails is a `Failure`. Only safety is proved.
+//! crashes on a `Mirror` of the disk. The first recovery that fails is a `Failure`. `Orders` runs the recovery on states that a search of
+//! all orders of calls shows it. Only safety is proved.
 #![tactic(auto)]
 
 mod batch;
@@ -16,6 +17,7 @@ mod listing;
 mod mirror;
 mod nested;
 mod no_files;
+mod orders;
 mod outcomes;
 mod pending;
 mod point;
@@ -36,8 +38,10 @@ pub use crash_lists::CrashModel;
 pub use effort::{Effort, Part};
 pub use failure::Failure;
 pub use listing::explore_by;
+pub use orders::{Orders, OrdersTried};
 pub use outcomes::explore;
 pub use recovery::{Recovery, RecoveryProgram};
 pub use saving::save;
-pub use verdict::{Subject, Tested, Trial, Verdict, try_recoveries};
+pub use stop::Stop;
+pub use verdict::{SearchedStates, Subject, Tested, Trial, Verdict, try_recoveries};
 pub use windows::Rule;

@@ -67,7 +67,6 @@ pub fn explore_by<R: Files + AllocGlobal + Threads + Sync, O: Write>(
             writeln!(lister.out, "{count} lists{bound}")?;
             Ok(end)
         }
-        Err(Stop::Fault(fault)) => Err(fault),
-        Err(_) => Err(Fault::OutOfMemory),
+        Err(stop) => Err(stop.into_fault()),
     }
 }

@@ -49,6 +49,14 @@ fn crashed(mut device: SimDisk, writes: &[Piece], fill: Fill) -> Result<SimDisk,
     Ok(device.crash(fill.bytes()))
 }
 
+/// Writes bytes back to where these writes were to go.
+fn put_back(device: &mut SimDisk, writes: &[Piece], old: Vec<Vec<u8>>) -> Result<(), Fault> {
+    for (piece, bytes) in writes.iter().zip(old) {
+        put(device, piece.at, bytes.as_slice())?;
+    }
+    Ok(())
+}
+
 impl Mirror {
     /// Of no core as yet.
     pub fn new() -> Mirror {
@@ -68,6 +76,14 @@ impl Mirror {
         Ok(())
     }
 
+    /// The disk of a core without what is in flight. It is to be handed back.
+    fn take(&mut self, core: &Core) -> Result<SimDisk, Fault> {
+        match self.device.take() {
+            Some(device) => Ok(device),
+            None => Ok(core.after_crash(&[])?),
+        }
+    }
+
     /// The files that a crash with this fill would leave now. The core itself goes on.
     pub fn files_after(
         &mut self,
@@ -79,17 +95,12 @@ impl Mirror {
             self.device = None;
             return Ok(recover(alloc, &core.after_crash(fill.bytes())?)?);
         }
-        let device = match self.device.take() {
-            Some(device) => device,
-            None => core.after_crash(&[])?,
-        };
+        let device = self.take(core)?;
         let writes = core.writes_in_flight();
         let old = old_bytes(alloc, &device, writes)?;
         let mut left = crashed(device, writes, fill)?;
         let files = recover(alloc, &left)?;
-        for (piece, bytes) in writes.iter().zip(old) {
-            put(&mut left, piece.at, bytes.as_slice())?;
-        }
+        put_back(&mut left, writes, old)?;
         self.device = Some(left);
         Ok(files)
     }

@@ -1,7 +1,7 @@
 //! Crashes of a recovery.
 use crate::digests::digest_of_files;
 use crate::mirror::{Mirror, differ_by_fill};
-use crate::point::{CrashPlace, CrashPoint, Left};
+use crate::point::{CrashPlace, CrashPoint};
 use crash_outcomes::{FILLS, Fill, Moment, moment_of, outcome_of};
 use faults::Fault;
 use kernel::{Answer, Core, Event};
@@ -61,10 +61,7 @@ impl Nested {
             return Ok(());
         }
         let point = CrashPoint {
-            place: CrashPlace {
-                moment,
-                left: Left::Filled(fill),
-            },
+            place: CrashPlace::Filled(moment, fill),
             outcome: outcome_of(alloc, files.list())?,
             told: String::new(alloc),
         };

@@ -19,6 +19,15 @@ impl Tally {
         recoveries: 0,
         others: 0,
     };
+
+    /// Both together.
+    pub fn with(self, more: Tally) -> Tally {
+        Tally {
+            crashes: self.crashes.saturating_add(more.crashes),
+            recoveries: self.recoveries.saturating_add(more.recoveries),
+            others: self.others.saturating_add(more.others),
+        }
+    }
 }
 
 /// A disk that a crash of the run left, and what was promised before.

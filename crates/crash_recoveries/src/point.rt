@@ -4,20 +4,16 @@ use std::alloc::{AllocError, Global};
 use std::io::Write;
 use std::{fmt, io};
 
-/// What a crash left of what was not on the disk yet.
-#[derive(Clone, Copy)]
-pub enum Left {
-    /// The ranges of writes in flight or failed hold the bytes of this fill.
-    Filled(Fill),
-    /// By another rule than bench's, so many cells are not as at one moment.
-    Apart(u32),
-}
-
-/// Which crash it is: when it came, and what it left. It prints as its name.
+/// Which crash it is: when it came, and what it left of what was not on the disk yet. It prints as its name.
 #[derive(Clone, Copy, Drop)]
-pub struct CrashPlace {
-    pub moment: Moment,
-    pub left: Left,
+pub enum CrashPlace {
+    /// At this moment, and the ranges of writes in flight or failed hold the bytes of this fill.
+    Filled(Moment, Fill),
+    /// At this moment, and by another rule than bench's so many cells are not as at one moment.
+    Apart(Moment, u32),
+    /// After an order of calls, when all that they did was committed: of the orders that came to a new disk with its promise the one of
+    /// this number, from 1.
+    Order(u64),
 }
 
 /// A crash, and the files that it left, as a line.
@@ -25,16 +21,20 @@ pub struct CrashPlace {
 pub struct CrashPoint {
     pub place: CrashPlace,
     pub outcome: String,
-    /// By another rule than bench's, which changes are there, in words.
+    /// By another rule than bench's, which changes are there, in words; of an order, whose calls it has.
     pub told: String,
 }
 
 impl fmt::Display for CrashPlace {
     fn fmt<W: fmt::Write>(&self, f: &mut fmt::Formatter<W>) -> fmt::Result {
-        let (boot, event) = (self.moment.boot, self.moment.event);
-        match self.left {
-            Left::Filled(fill) => write!(f, "boot {boot} event {event} fill {fill}"),
-            Left::Apart(count) => write!(f, "boot {boot} event {event} apart {count}"),
+        match self {
+            CrashPlace::Filled(Moment { boot, event, .. }, fill) => {
+                write!(f, "boot {boot} event {event} fill {fill}")
+            }
+            CrashPlace::Apart(Moment { boot, event, .. }, count) => {
+                write!(f, "boot {boot} event {event} apart {count}")
+            }
+            CrashPlace::Order(number) => write!(f, "order {number}"),
         }
     }
 }
@@ -53,9 +53,9 @@ impl CrashPoint {
     pub fn print<O: Write>(&self, out: &mut O) -> io::Result<()> {
         let outcome = self.outcome.as_str();
         let place = self.place;
-        match place.left {
-            Left::Filled(fill) => print_outcome(place.moment, fill, outcome, out),
-            Left::Apart(_) => {
+        match place {
+            CrashPlace::Filled(moment, fill) => print_outcome(moment, fill, outcome, out),
+            CrashPlace::Apart(..) | CrashPlace::Order(_) => {
                 let told = self.told.as_str();
                 writeln!(out, "{place} {outcome}\n{told}")
             }
@@ -64,14 +64,17 @@ impl CrashPoint {
 
     /// How many events its run had before it.
     pub fn events(&self) -> u64 {
-        self.place.moment.event
+        match self.place {
+            CrashPlace::Filled(moment, _) | CrashPlace::Apart(moment, _) => moment.event,
+            CrashPlace::Order(_) => 0,
+        }
     }
 
     /// The fill with which bench itself is to crash there.
     pub fn fill(&self) -> Fill {
-        match self.place.left {
-            Left::Filled(fill) => fill,
-            Left::Apart(_) => Fill::Unchanged,
+        match self.place {
+            CrashPlace::Filled(_, fill) => fill,
+            CrashPlace::Apart(..) | CrashPlace::Order(_) => Fill::Unchanged,
         }
     }
 }

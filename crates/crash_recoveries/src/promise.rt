@@ -35,6 +35,13 @@ impl Promise {
         Promise::new(alloc, earlier, core.written(0))
     }
 
+    /// These bytes.
+    pub fn of_bytes(alloc: Global, shown: &[u8]) -> Result<Promise, AllocError>
+        ensures { IfOk result (λ promise. promise.shown.items ≡ shown.now) }
+    {
+        Promise::new(alloc, &[], shown)
+    }
+
     /// The same, in memory of its own.
     pub fn try_clone(&self, alloc: Global) -> Result<Promise, AllocError> {
         Ok(Promise {

@@ -22,6 +22,19 @@ pub struct Ran {
     pub left: Vec<NestedCrash>,
 }
 
+/// The core after a crash of a recovery that was just booted.
+fn crashed<R: Files + AllocGlobal>(
+    rt: &R,
+    setup: &mut Setup,
+    core: Core,
+    point: &CrashPoint,
+    limit: u64,
+) -> Result<Core, Fault> {
+    let mut core = core;
+    play_some(&mut core, limit, point.events())?;
+    setup.boot(rt, Some(core.halt(point.fill().bytes())))
+}
+
 /// The core after the crashes of a chain.
 fn reach<R: Files + AllocGlobal>(
     rt: &R,
@@ -31,9 +44,7 @@ fn reach<R: Files + AllocGlobal>(
 ) -> Result<Core, Fault> {
     let mut core = setup.boot(rt, None)?;
     for point in chain {
-        play_some(&mut core, limit, point.events())?;
-        let left = core.halt(point.fill().bytes());
-        core = setup.boot(rt, Some(left))?;
+        core = crashed(rt, setup, core, point, limit)?;
     }
     Ok(core)
 }

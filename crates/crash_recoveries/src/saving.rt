@@ -1,10 +1,10 @@
 //! `save`: a failure as two scripts.
 use crate::course::play_some;
 use crate::failure::Failure;
-use crate::point::Left;
+use crate::point::{CrashPlace, CrashPoint};
 use crate::recovery::RecoveryProgram;
 use faults::{Fault, at_path};
-use kernel::Event;
+use kernel::{Core, Event};
 use scripts::{EventText, Setup, write_setup};
 use std::fs;
 use std::io::Write;
@@ -30,10 +30,42 @@ fn run_script<R: AllocGlobal>(
     write_setup(rt.alloc(), setup, &mut script)?;
     script.extend_from_slice(played.as_bytes())?;
     writeln!(script, "shown 0")?;
-    if let Left::Filled(fill) = failure.point.place.left {
+    if !matches!(failure.point.place, CrashPlace::Apart(..)) {
+        let fill = failure.point.fill();
         writeln!(script, "crash {fill}\nfiles")?;
     }
     Ok(script)
+}
+
+/// Appends the lines of a recovery that was just booted up to a crash of it. Gives the core after that.
+fn push_crashed<R: Files + AllocGlobal>(
+    rt: &R,
+    setup: &mut Setup,
+    core: Core,
+    point: &CrashPoint,
+    limit: u64,
+    script: &mut Vec<u8>,
+) -> Result<Core, Fault> {
+    let mut core = core;
+    play_some(&mut core, limit, point.events())?;
+    push_events(script, core.history())?;
+    let fill = point.fill();
+    writeln!(script, "crash {fill}")?;
+    setup.boot(rt, Some(core.halt(fill.bytes())))
+}
+
+/// Appends the lines of the recoveries that crashed.
+fn push_chain<R: Files + AllocGlobal>(
+    rt: &R,
+    limit: u64,
+    failure: &mut Failure,
+    script: &mut Vec<u8>,
+) -> Result<(), Fault> {
+    let mut core = failure.setup.boot(rt, None)?;
+    for point in &failure.chain {
+        core = push_crashed(rt, &mut failure.setup, core, point, limit, script)?;
+    }
+    Ok(())
 }
 
 /// The script of the recovery, and of its crashes before.
@@ -44,14 +76,7 @@ fn recovery_script<R: Files + AllocGlobal>(
 ) -> Result<Vec<u8>, Fault> {
     let mut script = Vec::new(rt.alloc());
     write_setup(rt.alloc(), &failure.setup, &mut script)?;
-    let mut core = failure.setup.boot(rt, None)?;
-    for point in &failure.chain {
-        play_some(&mut core, program.limit, point.events())?;
-        push_events(&mut script, core.history())?;
-        let fill = point.fill();
-        writeln!(script, "crash {fill}")?;
-        core = failure.setup.boot(rt, Some(core.halt(fill.bytes())))?;
-    }
+    push_chain(rt, program.limit, failure, &mut script)?;
     push_events(&mut script, failure.core.history())?;
     writeln!(script, "shown 0")?;
     Ok(script)

@@ -14,6 +14,16 @@ pub enum Stop {
     TooLong,
 }
 
+impl Stop {
+    /// The fault, where nothing else can end it.
+    pub fn into_fault(self) -> Fault {
+        match self {
+            Stop::Fault(fault) => fault,
+            Stop::Failed | Stop::TooLong => Fault::OutOfMemory,
+        }
+    }
+}
+
 impl From<Fault> for Stop {
     fn from(fault: Fault) -> Stop {
         Stop::Fault(fault)

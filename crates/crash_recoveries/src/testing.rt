@@ -13,7 +13,6 @@ use crate::stop::Stop;
 use crate::taker::Taker;
 use crate::tried::Tried;
 use crash_outcomes::outcome_of;
-use exec_runs::Ending;
 use faults::Fault;
 use files::FileList;
 use progress::{Progress, ProgressCount};
@@ -85,9 +84,32 @@ impl<'a, R: Files + AllocGlobal, E: Write> Tester<'a, R, E> {
         self.tally
     }
 
+    /// How many disks with promises were found.
+    pub fn found(&self) -> u64 {
+        self.found
+    }
+
     /// How many disks were tried.
     pub fn count_disks(&self) -> usize {
         self.disks.len()
+    }
+
+    /// Whether a disk was not tried with a promise yet.
+    fn is_new(&mut self, disk: &str, promise: &Promise) -> Result<bool, AllocError> {
+        let nested = self.program.nested;
+        self.tried
+            .add(self.rt.alloc(), disk, promise.digest.as_str(), nested)
+    }
+
+    /// Counts a disk with its promise that is new. Whether it is in the part that is tried.
+    fn is_taken(&mut self) -> bool {
+        let number = self.found;
+        self.found = number.saturating_add(1);
+        let is_taken = self.effort.takes(number);
+        if !is_taken {
+            self.tally.others = self.tally.others.saturating_add(1);
+        }
+        is_taken
     }
 
     /// Adds a disk on which the recovery is to be run.
@@ -146,19 +168,18 @@ impl<'a, R: Files + AllocGlobal, E: Write> Tester<'a, R, E> {
         Ok(all)
     }
 
-    /// Adds up what was tried of a batch: all of it, or that up to the first disk on which a recovery failed.
-    fn sum_up(&mut self, batch: &mut Batch) -> Result<(), AllocError> {
-        let last = batch.last();
-        if let Some(disk) = batch.disks.get(last) {
+    /// Adds up what was tried of disks up to this one.
+    fn add_tried(&mut self, disks: &[Pending], last: usize) {
+        if let Some(disk) = disks.get(last) {
             self.tally = disk.before;
         }
-        for disk in batch.disks.iter().take(last.saturating_add(1)) {
-            let tally = self.tally;
-            self.tally.crashes = tally.crashes.saturating_add(disk.tried.crashes);
-            self.tally.recoveries = tally.recoveries.saturating_add(disk.tried.recoveries);
+        for disk in disks.iter().take(last.saturating_add(1)) {
+            self.tally = self.tally.with(disk.tried);
         }
-        let mut seen = Vec::new(self.rt.alloc());
-        seen.append(&mut batch.seen)?;
+    }
+
+    /// Adds the disks to which those up to this one led.
+    fn add_seen(&mut self, seen: Vec<Seen>, last: usize) -> Result<(), AllocError> {
         for Seen { digest, disk } in seen {
             if disk <= last {
                 self.disks.insert(digest)?;
@@ -167,20 +188,41 @@ impl<'a, R: Files + AllocGlobal, E: Write> Tester<'a, R, E> {
         Ok(())
     }
 
-    /// Runs the recovery on the disks that are pending, and again after its own crashes. Failed where one of these fails.
-    fn run_batch<T: Threads + Sync>(&mut self, rt: &T) -> Result<(), Stop> {
+    /// Adds up what was tried of a batch: all of it, or that up to the first disk on which a recovery failed.
+    fn sum_up(&mut self, batch: &mut Batch) -> Result<(), AllocError> {
+        let last = batch.last();
+        self.add_tried(batch.disks.as_slice(), last);
+        let mut seen = Vec::new(self.rt.alloc());
+        seen.append(&mut batch.seen)?;
+        self.add_seen(seen, last)
+    }
+
+    /// What is pending, as a batch.
+    fn next_batch(&mut self) -> Result<Batch, AllocError> {
         let alloc = self.rt.alloc();
         let mut disks = Vec::new(alloc);
         disks.append(&mut self.pending)?;
         let mut seen = Vec::new(alloc);
         seen.append(&mut self.seen)?;
-        let mut batch = Batch::new(alloc, disks, seen)?;
-        let nested = self.program.nested;
-        for _ in 0..=nested {
-            if !batch.jobs.is_empty() {
-                let ran = self.run_jobs(rt, &batch)?;
-                batch.sort_out(alloc, ran, nested, &mut self.tried)?;
-            }
+        Batch::new(alloc, disks, seen)
+    }
+
+    /// Runs the recoveries of a batch that are to be run now.
+    fn run_round<T: Threads + Sync>(&mut self, rt: &T, batch: &mut Batch) -> Result<(), Fault> {
+        if batch.jobs.is_empty() {
+            return Ok(());
+        }
+        let ran = self.run_jobs(rt, batch)?;
+        let (alloc, nested) = (self.rt.alloc(), self.program.nested);
+        batch.sort_out(alloc, ran, nested, &mut self.tried)?;
+        Ok(())
+    }
+
+    /// Runs the recovery on the disks that are pending, and again after its own crashes. Failed where one of these fails.
+    fn run_batch<T: Threads + Sync>(&mut self, rt: &T) -> Result<(), Stop> {
+        let mut batch = self.next_batch()?;
+        for _ in 0..=self.program.nested {
+            self.run_round(rt, &mut batch)?;
         }
         self.together = self.together.saturating_mul(2).min(MOST_TOGETHER);
         self.sum_up(&mut batch)?;
@@ -200,11 +242,11 @@ impl<'a, R: Files + AllocGlobal, E: Write> Tester<'a, R, E> {
     }
 
     /// Runs the recovery on what is still pending when the run is over, and says how all ended.
-    pub fn finish<T: Threads + Sync>(
+    pub fn finish<T: Threads + Sync, D: Drop>(
         &mut self,
         rt: &T,
-        done: Result<Ending, Stop>,
-    ) -> Result<Ending, Stop> {
+        done: Result<D, Stop>,
+    ) -> Result<D, Stop> {
         if !matches!(done, Err(Stop::Fault(_) | Stop::Failed)) {
             self.run_batch(rt)?;
         }
@@ -228,17 +270,7 @@ impl<R: Files + AllocGlobal, E: Write> Taker for Tester<'_, R, E> {
         let alloc = self.rt.alloc();
         self.again(1);
         let digest = digest_of_files(alloc, files)?;
-        let nested = self.program.nested;
-        if !self
-            .tried
-            .add(alloc, digest.as_str(), promise.digest.as_str(), nested)?
-        {
-            return Ok(());
-        }
-        let number = self.found;
-        self.found = number.saturating_add(1);
-        if !self.effort.takes(number) {
-            self.tally.others = self.tally.others.saturating_add(1);
+        if !self.is_new(digest.as_str(), promise)? || !self.is_taken() {
             return Ok(());
         }
         let point = CrashPoint {

@@ -4,7 +4,7 @@ ghost use Rattle.disk_model.specs.Storage.{is_quiet};
 
 use crate::course::{Course, Playing, RunEnd};
 use crate::mirror::{Mirror, differ_by_fill};
-use crate::point::{CrashPlace, Left};
+use crate::point::CrashPlace;
 use crate::promise::Promise;
 use crate::stop::Stop;
 use crate::taker::Taker;
@@ -99,7 +99,7 @@ impl<'a, R: Files + AllocGlobal> Trier<'a, R> {
         Ok(core)
     }
 
-    /// Tries crashes where a run ends.
+    /// A run ends: crashes are tried there too, where all is shown.
     fn end(&mut self, core: &Core) -> Result<(), Stop> {
         self.passed_over.end(core);
         self.try_crashes(core)
@@ -110,10 +110,7 @@ impl<'a, R: Files + AllocGlobal> Trier<'a, R> {
 fn hand_out<T: Taker>(crashes: &Crashes, taker: &mut T) -> Result<(), Stop> {
     let mut others = FILLS.len() as u64;
     for crashed in &crashes.left {
-        let place = CrashPlace {
-            moment: crashes.moment,
-            left: Left::Filled(crashed.fill),
-        };
+        let place = CrashPlace::Filled(crashes.moment, crashed.fill);
         taker.take(crashed.files.list(), &crashes.promise, place, "")?;
         others = others.saturating_sub(1);
     }
@@ -132,8 +129,7 @@ impl<R: Files + AllocGlobal + Threads + Sync> Trier<'_, R> {
         taker.settle(self.rt)
     }
 
-    /// Boots, and runs to the end; what crashes leave is handed out after each step. The last crash is tried at the end, where all is
-    /// shown.
+    /// Boots, and runs to the end; what crashes leave is handed out after each step.
     pub fn run<T: Taker>(&mut self, course: &Course, taker: &mut T) -> Result<RunEnd, Stop> {
         let core = self.boot(None)?;
         let mut playing = Playing::begin(core, course);

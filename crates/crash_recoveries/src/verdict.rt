@@ -4,8 +4,10 @@ ghost use Rattle.exec_runs.specs.declared.ending.Ending.TheVariants.{Over};
 ghost use Rattle.crash_recoveries.specs.Verdicts.{is_failed, is_kept};
 
 use crate::course::{Course, RunEnd};
-use crate::effort::Effort;
+use crate::effort::{Effort, Part};
 use crate::failure::Failure;
+use crate::pending::Tally;
+use crate::point::CrashPlace;
 use crate::recovery::Recovery;
 use crate::stop::Stop;
 use crate::taker::Taker;
@@ -19,10 +21,10 @@ use kernel::Core;
 use progress::Progress;
 use scripts::Setup;
 use std::alloc::{AllocError, Global};
-use std::io;
 use std::io::Write;
 use std::rt::Files;
 use std::thread::Threads;
+use std::{fmt, io};
 
 /// What is run, and how.
 #[derive(Drop)]
@@ -53,11 +55,28 @@ pub enum Verdict {
 
 /// What is said of what was not tried.
 #[derive(Clone, Copy)]
-enum Untried {
+pub enum Untried {
     /// The disks that no crash left.
     Passed(PassedOver),
-    /// What is past this bound.
-    Past(Bound),
+    /// What is past this bound, if no recovery failed.
+    Past(Option<Bound>),
+    /// What a search did not come to, which came so far, if it came to its end.
+    Orders(Option<SearchedStates>),
+}
+
+/// How far a search of all orders of calls came. It prints as the beginning of a line.
+#[derive(Clone, Copy)]
+pub struct SearchedStates {
+    pub states: u64,
+    /// How many calls were tried that do something.
+    pub calls: u64,
+}
+
+impl fmt::Display for SearchedStates {
+    fn fmt<W: fmt::Write>(&self, f: &mut fmt::Formatter<W>) -> fmt::Result {
+        let SearchedStates { states, calls } = self;
+        write!(f, "{states} states, {calls} calls, ")
+    }
 }
 
 /// What came of the recoveries, and the core of the run at its end, where it came there.
@@ -111,12 +130,25 @@ fn run_by_rule<R: Files + AllocGlobal + Threads + Sync, T: Taker>(
     let Subject { setup, course } = subject;
     let mut trier = WindowTrier::new(rt, setup, rule);
     let (done, core) = parted(trier.run(course, taker));
-    let untried = Untried::Past(trier.bound());
+    let untried = Untried::Past(Some(trier.bound()));
     TriedRun {
         done,
         core,
         played: trier.into_played(),
         untried,
+    }
+}
+
+/// Runs what is set up, and tries its crashes by a rule, or by bench's own.
+fn run_by<R: Files + AllocGlobal + Threads + Sync, T: Taker>(
+    rt: &R,
+    subject: Subject<'_>,
+    rule: Option<Rule>,
+    taker: &mut T,
+) -> TriedRun {
+    match rule {
+        Some(rule) => run_by_rule(rt, subject, rule, taker),
+        None => run_by_bench(rt, subject, taker),
     }
 }
 
@@ -140,56 +172,121 @@ fn lines_up_to(alloc: Global, played: &str, moment: Moment) -> Result<String, Al
     Ok(lines)
 }
 
+/// Prints how many disks and recoveries were tried.
+fn print_tried<O: Write>(disks: usize, tally: Tally, out: &mut O) -> io::Result<()> {
+    let recoveries = tally.recoveries;
+    write!(out, "{disks} disks, {recoveries} recoveries")
+}
+
+/// Prints how much was tried of a run by bench's rule, and what was not.
+fn print_passed<O: Write>(
+    disks: usize,
+    tally: Tally,
+    passed_over: PassedOver,
+    out: &mut O,
+) -> io::Result<()> {
+    let crashes = tally.crashes;
+    write!(out, "{crashes} crashes, ")?;
+    print_tried(disks, tally, out)?;
+    write!(out, "{passed_over}")
+}
+
+/// Prints how many disks of other parts were not tried.
+fn print_part<O: Write>(part: Part, tally: Tally, out: &mut O) -> io::Result<()> {
+    let (Part { number, of }, others) = (part, tally.others);
+    write!(
+        out,
+        "; part {number}/{of}: {others} disks of other parts were not tried"
+    )
+}
+
 /// Prints how much was tried, and what was not.
+fn print_untried<O: Write>(
+    disks: usize,
+    tally: Tally,
+    untried: Untried,
+    out: &mut O,
+) -> io::Result<()> {
+    match untried {
+        Untried::Passed(passed_over) => print_passed(disks, tally, passed_over, out),
+        Untried::Past(None) | Untried::Orders(None) => print_tried(disks, tally, out),
+        Untried::Past(Some(bound)) => {
+            print_tried(disks, tally, out)?;
+            write!(out, "{bound}")
+        }
+        Untried::Orders(Some(searched)) => {
+            write!(out, "{searched}")?;
+            print_tried(disks, tally, out)
+        }
+    }
+}
+
+/// Prints how much was tried, and what was not, as a line.
 fn print_sums<R: Files + AllocGlobal, E: Write, O: Write>(
     tester: &Tester<'_, R, E>,
     untried: Untried,
     effort: Effort,
     out: &mut O,
 ) -> io::Result<()> {
-    let (tally, disks) = (tester.tally(), tester.count_disks());
-    let recoveries = tally.recoveries;
-    match untried {
-        Untried::Passed(passed_over) => {
-            let crashes = tally.crashes;
-            write!(
-                out,
-                "{crashes} crashes, {disks} disks, {recoveries} recoveries{passed_over}"
-            )?;
-        }
-        Untried::Past(bound) => {
-            write!(out, "{disks} disks, {recoveries} recoveries")?;
-            if tester.failure.is_none() {
-                write!(out, "{bound}")?;
-            }
-        }
-    }
+    let tally = tester.tally();
+    print_untried(tester.count_disks(), tally, untried, out)?;
     if let Some(part) = effort.part {
-        let (number, of, others) = (part.number, part.of, tally.others);
-        write!(
-            out,
-            "; part {number}/{of}: {others} disks of other parts were not tried"
-        )?;
+        print_part(part, tally, out)?;
     }
     writeln!(out)
 }
 
-/// The verdict where recoveries were tried to this end.
-fn verdict_of(
+/// What is said of what was not tried where a recovery failed, or none did.
+fn untried_of(untried: Untried, has_failed: bool) -> Untried {
+    match untried {
+        Untried::Past(_) if has_failed => Untried::Past(None),
+        untried => untried,
+    }
+}
+
+/// Prints the first recovery that failed, if one did, and how much was tried.
+pub fn print_tested<R: Files + AllocGlobal, E: Write, O: Write>(
+    tester: &Tester<'_, R, E>,
+    untried: Untried,
+    effort: Effort,
+    out: &mut O,
+) -> io::Result<()> {
+    if let Some(failure) = &tester.failure {
+        failure.print(out)?;
+    }
+    let untried = untried_of(untried, tester.failure.is_some());
+    print_sums(tester, untried, effort, out)
+}
+
+/// The lines of the run up to the crash after which a recovery failed, if one did.
+fn failed_lines(
     alloc: Global,
+    failure: Option<&Failure>,
+    played: &str,
+) -> Result<String, AllocError> {
+    match failure {
+        Some(failure) => match failure.point.place {
+            CrashPlace::Filled(moment, _) | CrashPlace::Apart(moment, _) => {
+                lines_up_to(alloc, played, moment)
+            }
+            CrashPlace::Order(_) => Ok(String::new(alloc)),
+        },
+        None => Ok(String::new(alloc)),
+    }
+}
+
+/// The verdict where recoveries were tried to this end, and these are the lines of the run up to the crash after which one failed.
+pub fn verdict_of(
     done: Result<Ending, Stop>,
     failure: Option<Failure>,
-    played: &str,
+    lines: String,
 ) -> Result<Verdict, Fault>
     ensures failed { IfOk result (λ verdict. is_failed verdict ≡ is_some failure) }
     ensures kept { IfOk result (λ verdict. is_kept verdict ≡ true → done ≡ Ok Over) }
 {
     match (done, failure) {
         (Err(Stop::Fault(fault)), _) => Err(fault),
-        (_, Some(failure)) => {
-            let lines = lines_up_to(alloc, played, failure.point.place.moment)?;
-            Ok(Verdict::Failed(failure, lines))
-        }
+        (_, Some(failure)) => Ok(Verdict::Failed(failure, lines)),
         (Ok(Ending::Limit { .. } | Ending::Full { .. }), None) => Ok(Verdict::Cut),
         (Err(_), None) => Ok(Verdict::TooLong),
         (Ok(Ending::Over), None) => Ok(Verdict::Kept),
@@ -212,19 +309,14 @@ pub fn try_recoveries<R: Files + AllocGlobal + Threads + Sync, O: Write, E: Writ
     let alloc = rt.alloc();
     let progress = Progress::new(rt, err, trial.effort.progress);
     let mut tester = Tester::new(rt, &recovery.program, trial.effort, progress);
-    let run = match trial.rule {
-        Some(rule) => run_by_rule(rt, subject, rule, &mut tester),
-        None => run_by_bench(rt, subject, &mut tester),
-    };
+    let run = run_by(rt, subject, trial.rule, &mut tester);
     let done = tester.finish(rt, run.done);
     if let Err(Stop::Fault(fault)) = done {
         return Err(fault);
     }
-    if let Some(failure) = &tester.failure {
-        failure.print(out)?;
-    }
-    print_sums(&tester, run.untried, trial.effort, out)?;
-    let verdict = verdict_of(alloc, done, tester.into_failure(), run.played.as_str())?;
+    print_tested(&tester, run.untried, trial.effort, out)?;
+    let lines = failed_lines(alloc, tester.failure.as_ref(), run.played.as_str())?;
+    let verdict = verdict_of(done, tester.into_failure(), lines)?;
     Ok(Tested {
         verdict,
         core: run.core,

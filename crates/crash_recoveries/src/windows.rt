@@ -4,7 +4,7 @@ ghost use Rattle.disk_model.specs.Storage.{is_quiet};
 
 use crate::course::{Course, Playing, RunEnd};
 use crate::digests::digest_of_files;
-use crate::point::{CrashPlace, Left};
+use crate::point::CrashPlace;
 use crate::promise::Promise;
 use crate::stop::Stop;
 use crate::taker::Taker;
@@ -213,15 +213,29 @@ impl<'a, R: Files + AllocGlobal> WindowTrier<'a, R> {
             self.too_many.insert(digest)?;
             return Ok(());
         }
-        let place = CrashPlace {
-            moment: closed.moment,
-            left: Left::Apart(listed.apart),
-        };
+        let place = CrashPlace::Apart(closed.moment, listed.apart);
         taker.take(&listed.files, &closed.promise, place, listed.told.as_str())
     }
 }
 
 impl<R: Files + AllocGlobal + Threads + Sync> WindowTrier<'_, R> {
+    /// Hands out the lists near a common moment in which so many cells are apart. Whether there are others, with more.
+    fn try_near<T: Taker>(
+        &mut self,
+        closed: &Closed,
+        lists: &Enumeration<'_>,
+        common: usize,
+        apart: u32,
+        taker: &mut T,
+    ) -> Result<bool, Stop> {
+        let near = lists.near(self.rt.alloc(), common, apart)?;
+        for listed in near.lists.iter().filter(|listed| listed.apart == apart) {
+            self.hand_out(closed, listed, taker)?;
+        }
+        taker.settle(self.rt)?;
+        Ok(near.is_cut)
+    }
+
     /// Hands out the lists of a window in which so many cells are apart. Whether there are others, with more.
     fn try_apart<T: Taker>(
         &mut self,
@@ -236,12 +250,8 @@ impl<R: Files + AllocGlobal + Threads + Sync> WindowTrier<'_, R> {
                 self.is_full = true;
                 return Ok(false);
             }
-            let near = lists.near(self.rt.alloc(), common, apart)?;
-            is_cut = is_cut || near.is_cut;
-            for listed in near.lists.iter().filter(|listed| listed.apart == apart) {
-                self.hand_out(closed, listed, taker)?;
-            }
-            taker.settle(self.rt)?;
+            let cuts = self.try_near(closed, lists, common, apart, taker)?;
+            is_cut = is_cut || cuts;
         }
         Ok(is_cut)
     }

@@ -28,7 +28,8 @@ impl ExplorationFault {
     pub fn why(&self) -> &'static str {
         match self {
             ExplorationFault::NotExpected { .. } => "it has no line that is this outcome",
-            ExplorationFault::Cut { .. } => "more states were found than --most-states",
+            ExplorationFault::Cut { .. } =>
+                "more states were found than --most-states, or as many calls lead to them as --most-calls",
             ExplorationFault::RunsOn { .. } => {
                 "it ran as many instructions as --limit says, and came to no call"
             }

@@ -1,7 +1,8 @@
 //! The command `crashes`: crashes of a script, or of programs.
+use crate::crash_orders::recover_orders;
 use crate::crash_subject::{CrashSubject, program_in, subject_in};
 use crate::script_files::of_files;
-use command_line::{CrashOptions, ModelName};
+use command_line::{CrashOptions, ModelName, OrderBounds};
 use crash_recoveries::{
     Course, CrashModel, Effort, Failure, Part, Recovery, Rule, RunEnd, Subject, Tested, Trial,
     Verdict, explore, explore_by, save, try_recoveries,
@@ -51,8 +52,17 @@ fn trial_of(options: &CrashOptions<'_>) -> Trial {
     }
 }
 
-/// Says that the run was cut, and gives the exit status.
+/// Says that the run was cut, or a process of some order, and gives the exit status.
 fn tell_cut<E: Write>(options: &CrashOptions<'_>, err: &mut E) -> Result<u8, Fault> {
+    if let Some(OrderBounds { instructions, .. }) = options.orders {
+        write_line(
+            err,
+            format_args!(
+                "bench: not all explored: a process runs {instructions} instructions, and comes to no call"
+            ),
+        )?;
+        return Ok(NOT_ALL);
+    }
     let limit = options.limit;
     write_line(
         err,
@@ -132,7 +142,28 @@ fn end_failed<R: Files + AllocGlobal, E: Write>(
     Ok(FAILED)
 }
 
-/// Has the recovery run on what each crash leaves.
+/// Has the recovery run on what crashes leave: those of all orders, or of the run.
+fn test_recovery<R: Files + AllocGlobal + Threads + Sync, O: Write, E: Write>(
+    rt: &R,
+    options: &CrashOptions<'_>,
+    subject: &mut CrashSubject,
+    recovery: &Recovery,
+    out: &mut O,
+    err: &mut E,
+) -> Result<Tested, Fault> {
+    let trial = trial_of(options);
+    if let Some(bounds) = options.orders {
+        let (setup, effort) = (&mut subject.setup, trial.effort);
+        return recover_orders(rt, setup, recovery, bounds, effort, out, err);
+    }
+    let run = Subject {
+        setup: &mut subject.setup,
+        course: &subject.course,
+    };
+    try_recoveries(rt, run, recovery, trial, out, err)
+}
+
+/// Has the recovery run on what each crash leaves, and gives the exit status.
 fn recover_in<R: Files + AllocGlobal + Threads + Sync, O: Write, E: Write>(
     rt: &R,
     options: &CrashOptions<'_>,
@@ -143,11 +174,7 @@ fn recover_in<R: Files + AllocGlobal + Threads + Sync, O: Write, E: Write>(
 ) -> Result<u8, Fault> {
     let program = program_in(rt, path)?;
     let mut recovery = Recovery::new(rt.alloc(), program, options.limit, options.nested)?;
-    let run = Subject {
-        setup: &mut subject.setup,
-        course: &subject.course,
-    };
-    let Tested { verdict, core } = try_recoveries(rt, run, &recovery, trial_of(options), out, err)?;
+    let Tested { verdict, core } = test_recovery(rt, options, subject, &recovery, out, err)?;
     out.flush()?;
     match verdict {
         Verdict::Kept => tell_programs(subject, core.as_ref(), err),

@@ -1,6 +1,6 @@
 //! All orders of the calls of programs in files of the host.
 use crate::script_files::{of_files, of_script};
-use command_line::ExploreOptions;
+use command_line::{ExploreOptions, OrderBounds};
 use explored_runs::{Limits, MergeFault, Part, Wanted, explore_orders, merge_parts};
 use faults::{Fault, at_path, write_line};
 use host_files::{text_in, text_of_file};
@@ -56,18 +56,26 @@ fn expected_in<R: Files + AllocGlobal>(
     }
 }
 
-fn limits_of(options: &ExploreOptions<'_>) -> Limits {
+/// How far orders are searched, by how many threads. The whole, and no part.
+pub fn limits_of(bounds: OrderBounds, threads: Option<u32>) -> Limits {
+    Limits {
+        instructions: bounds.instructions,
+        states: bounds.states,
+        calls: Some(bounds.calls),
+        threads,
+        part: None,
+    }
+}
+
+/// How far is searched.
+fn limits_in(options: &ExploreOptions<'_>) -> Limits {
     let part = options.part.map(|part| Part {
         number: part.number,
         of: part.of,
     });
-    Limits {
-        instructions: options.instructions,
-        states: options.states,
-        calls: Some(u64::MAX),
-        threads: options.jobs,
-        part,
-    }
+    let mut limits = limits_of(options.bounds, options.jobs);
+    limits.part = part;
+    limits
 }
 
 /// Finds all outcomes of programs, or explores a part, and gives the exit status. A file that may be a script is read first, and then what
@@ -85,7 +93,7 @@ fn explore_in<R: Files + AllocGlobal + Threads + Sync, O: Write, E: Write>(
         folder: options.save,
         progress: options.progress,
     };
-    explore_orders(rt, &mut setup, limits_of(options), wanted, out, err)?;
+    explore_orders(rt, &mut setup, limits_in(options), wanted, out, err)?;
     Ok(0)
 }
 

@@ -3,6 +3,7 @@
 #![tactic(auto)]
 
 mod crash_files;
+mod crash_orders;
 mod crash_subject;
 mod debugging;
 mod disks;
