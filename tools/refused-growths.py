@@ -44,7 +44,7 @@ REFUSALS = {
 
 def part(number):
     """Returns the file of a part of two of an exploration, with its sum."""
-    lines = f"bench explore part 1\nprograms {0:032x} limit 1000000 most-states 1000000 part {number} of 2\n"
+    lines = f"bench explore part 2\nprograms {0:032x} limit 1000000 most-states 1000000 most-calls 10000 part {number} of 2\n"
     lines += f"state {0:032x} 0 1\nstate {number:032x} 1 0\noutcome 1 ends 1:{number} shown - files -\ncomplete\n"
     return f"{lines}sum {hashlib.sha256(lines.encode()).hexdigest()[:32]}\n".encode()
 

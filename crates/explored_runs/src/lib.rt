@@ -24,6 +24,7 @@ mod pipe_texts;
 mod private;
 mod programs;
 mod replay;
+mod reply_sums;
 mod run_search;
 mod runs;
 mod saved;
