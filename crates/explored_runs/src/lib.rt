@@ -44,4 +44,4 @@ pub use part_fault::MergeFault;
 pub use state_search::Part;
 pub use totals::Totals;
 pub use visited::VisitedState;
-pub use visiting::{ExploredStates, StateTaker, explore_states, lines_of_calls};
+pub use visiting::{ExploredStates, StateTaker, end_of_calls, explore_states, lines_of_calls};
