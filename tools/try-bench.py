@@ -23,7 +23,7 @@ NO_FILES = {"cat": (1, 3), "put": (1, 3), "diff": (1,)}
 # The commands whose file is a script.
 SCRIPT_COMMANDS = ("replay", "picture", "page", "crashes", "explore")
 FILE_OPTIONS = ("--trace", "--disk", "--tape", "--tape-of", "--expect", "--source", "--symbols", "--save", "--recover")
-NUMBER_OPTIONS = ("--workers", "--quantum", "--term", "--fail", "--status", "--cone", "--process", "--history", "--limit", "--seed", "--most-states", "--model", "--apart", "--nested", "--jobs", "--part", "--log-of")
+NUMBER_OPTIONS = ("--workers", "--quantum", "--term", "--fail", "--status", "--cone", "--process", "--history", "--limit", "--seed", "--most-states", "--most-calls", "--model", "--apart", "--nested", "--jobs", "--part", "--log-of")
 IMAGE_LINE = re.compile(rb"^(image [0-9]+ )(?=[^/\s])", re.MULTILINE)
 # The longest that the program may run, and how long nothing is said, in seconds.
 LONGEST_RUN, SILENCE = 1800, 30
@@ -104,7 +104,7 @@ class Room:
 
     def input_of(self, words):
         """Returns the place of what the program reads from standard input."""
-        is_tape = words and words[0] in ("run", "exec") and any(word in ("-", "--tape=-") or word.endswith("=-") for word in words)
+        is_tape = words and words[0] in ("run", "exec", "crashes") and any(word in ("-", "--tape=-") or word.endswith("=-") for word in words)
         if words and words[0] not in ("debug", "gdb") and not is_tape:
             return os.devnull
         with open(0, "rb", closefd=False) as file:
