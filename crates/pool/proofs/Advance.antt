@@ -10,6 +10,7 @@ use Rattle.bursts.specs.declared.totals.Totals.{Totals}
 use Rattle.pool.specs.declared.hand.Hand.{Hand}
 use Rattle.pool.specs.declared.settling.Settling.{Settling}
 use Rattle.pool.specs.declared.settling.Sums.{Sums}
+use Rattle.pool.specs.declared.told.Told.{Told}
 use Rattle.pool.specs.declared.told.Told.TheVariants as told_of
 use Rattle.pool.specs.Queues.{AtQueue, with_put, found_full}
 use Rattle.pool.specs.Settled.{Settled, Ends, Settlement, loans_in, totals_in, rejected_in, settling_of, after, no_settling}
@@ -189,8 +190,11 @@ pub after_fetch : (a m : Seated) (q : ℕ) (x y : LoanId) (H : ℕ → Type 0) (
 after_fetch a m q x y H P f h p is = (x, m, f, (h, subst (λ (z : LoanId). P z m) is p))
 
 -- the bench answers after a settling
-pub asks : (a m b : Seated) (n : Settling) (s : Sums) (over : Bool) → Settled a.results.hand a.share n m.results.hand m.share → Ends a.results n m.results → m ≡ with_settled a m.results m.share → settling_of s ≡ n
-    → b ≡ told_so m (told_of.Over over) → (k : Seated) × (t : Settling) × Clears a k [] t × (b ≡ told_so k (told_of.Over over))
-asks a m b n s over d ends rest is told =
+pub asks : (z a : Seated) (w : AtQueue) (k : Holding) (answers : List Told) (n : Settling) (s : Sums) (over : Bool) → z ≡ a → Ends z.results n w
+    → Settled z.results.hand z.share n w.hand k → settling_of s ≡ n → answers ≡ z.told ++ told_of.Over over ∷ []
+    → (m : Seated) × (t : Settling) × Clears a m [] t × (record (with_settled z w k) { told = answers } ≡ told_so m (told_of.Over over))
+asks z a w k answers n s over same ends d is told =
+    let m = with_settled z w k in
     let accepted : n.rejected ≡ None = ap (λ (x : Settling). x.rejected) (sym is) in
-    (m, n, ((advances_settled a m n d ends rest, accepted), cleared a m n ends accepted), told)
+    subst (λ (x : Seated). (m : Seated) × (t : Settling) × Clears x m [] t × (record (with_settled z w k) { told = answers } ≡ told_so m (told_of.Over over))) same
+    (m, n, ((advances_settled z m n d ends refl, accepted), cleared z m n ends accepted), ap (λ (l : List Told). record (with_settled z w k) { told = l }) told)

@@ -5,7 +5,7 @@ use Rattle.bursts.specs.declared.fault.WorkFault.{WorkFault}
 use Rattle.bursts.specs.declared.fault.WorkFault.TheVariants as fault
 use Rattle.pool.specs.declared.crewing.Next.{Next}
 use Rattle.pool.specs.declared.crewing.Next.TheVariants as next
-use Rattle.pool.specs.GoingOn.{TurnsOn}
+use Rattle.pool.specs.GoingOn.{HeldTimes, TurnsOn}
 use Rattle.pool.specs.Seats.{Seated}
 use Rattle.pool.specs.Turns.{Asks}
 
@@ -31,15 +31,15 @@ ThenDoes (Ok true) old new does = (new ≡ old) × (does ≡ next.Ask)
 ThenDoes (Ok false) old new does = AsksThen old new does
 ThenDoes (Err failed) old new does = (new ≡ old) × (does ≡ next.End (Some failed))
 
--- A worker takes a turn at its seat, and does this next.
-abbrev pub TakesTurn : ℕ → Seated → Seated → Next → Type 0
-TakesTurn q old new does = (turned : Result Bool WorkFault) × (m : Seated) × TurnsOn old q m turned × ThenDoes turned m new does
+-- A worker with a seat and a gate takes a turn, and does this next.
+abbrev pub TakesTurn : {G : Type 0} → (G → ℕ → G → Type 0) → ℕ → Seated × G → Seated × G → Next → Type 0
+TakesTurn holds q old new does = (turned : Result Bool WorkFault) × (m : Seated) × TurnsOn old.0 q (HeldTimes holds old.1 new.1) m turned × ThenDoes turned m new.0 does
 
 -- it took so many turns, and went on after each
-abbrev pub WentOn : ℕ → Seated → Seated → ℕ → Type 0
-WentOn q old new zero = new ≡ old
-WentOn q old new (suc n) = (m : Seated) × WentOn q old m n × (TakesTurn q m new next.Ask ⊎ TakesTurn q m new next.Rest)
+abbrev pub WentOn : {G : Type 0} → (G → ℕ → G → Type 0) → ℕ → Seated × G → Seated × G → ℕ → Type 0
+WentOn holds q old new zero = new ≡ old
+WentOn {G} holds q old new (suc n) = (m : Seated × G) × WentOn holds q old m n × (TakesTurn holds q m new next.Ask ⊎ TakesTurn holds q m new next.Rest)
 
--- It took turns until one, after which it ended so.
-abbrev pub WorksUntil : ℕ → Seated → Seated → Option WorkFault → Type 0
-WorksUntil q old new ended = (turns : ℕ) × (m : Seated) × WentOn q old m turns × TakesTurn q m new (next.End ended)
+-- It took turns until one, after which it ended so. Beside them its gate was not held.
+abbrev pub WorksUntil : {G : Type 0} → (G → ℕ → G → Type 0) → ℕ → Seated × G → Seated × G → Option WorkFault → Type 0
+WorksUntil {G} holds q old new ended = (turns : ℕ) × (m : Seated × G) × WentOn holds q old m turns × TakesTurn holds q m new (next.End ended)

@@ -184,7 +184,7 @@ fn take_turn<N: Naming, G: Gate, R: Wait>(
     gate: &mut G,
     quantum: u32,
 ) -> Next
-    ensures { TakesTurn quantum seat.old seat.new result }
+    ensures { TakesTurn G.holds quantum (seat.old, gate.old) (seat.new, gate.new) result }
 {
     match seat.turn_on(rt, gate, quantum) {
         Ok(true) => Next::Ask,
@@ -201,7 +201,7 @@ fn work_on<N: Naming, G: Gate, R: Wait>(
     gate: &mut G,
     quantum: u32,
 ) -> Option<WorkFault>
-    ensures { WorksUntil quantum seat.old seat.new result }
+    ensures { WorksUntil G.holds quantum (seat.old, gate.old) (seat.new, gate.new) result }
 {
     let mut rest = Backoff::up_to(MOST_PAUSES);
     for _ in rt.forever() {

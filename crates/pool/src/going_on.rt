@@ -1,8 +1,7 @@
-//! `Seat::turn_on`: a turn of a worker of a crew, in which a process goes on after its calls.
+//! `Seat::turn_on`: a turn of a worker of a crew (`pool_crew`), in which a process goes on after its calls, past the queue of results.
 ghost use Rattle.std.specs.Prelude.{◌≡◌, option_map, MatchResult};
 ghost use Rattle.bursts.specs.LoanIds.{id_of_loan, id_of_result};
-ghost use Rattle.pool.specs.Settled.{SomeCoreRejects};
-ghost use Rattle.pool.specs.GoingOn.{EndsAt, GoesOn, RunsOn, TurnsOn, with_share};
+ghost use Rattle.pool.specs.GoingOn.{ComesBack, EndsAt, GoesOnce, HeldTimes, RunsOn, TurnsOn, with_share};
 
 use crate::locking::lock_soon;
 use crate::seats::Seat;
@@ -13,7 +12,7 @@ use std::sync::Wait;
 const MOST_IN_A_ROW: u32 = 64;
 
 /// Holds the gate with a loan's process, and runs the loan.
-fn run_held<N: Naming, G: Gate>(gate: &mut G, loan: TicketedLoan<N>) -> TicketedDone<N>
+pub(crate) fn run_held<N: Naming, G: Gate>(gate: &mut G, loan: TicketedLoan<N>) -> TicketedDone<N>
     ensures gate { G.holds gate.old loan.pid gate.new }
     ensures done { id_of_result result ≡ id_of_loan loan }
 {
@@ -28,7 +27,7 @@ fn go_on<N: Naming, R: Wait>(
     share: &mut Share<N>,
     done: TicketedDone<N>,
 ) -> Result<Option<TicketedLoan<N>>, Rejected>
-    ensures { MatchResult result (λ given. GoesOn share.old (id_of_result done) share.new (option_map id_of_loan given)) (λ r. (share.new ≡ share.old) × SomeCoreRejects r) }
+    ensures { MatchResult result (λ given. GoesOnce share.old (id_of_result done) share.new (option_map id_of_loan given)) (ComesBack share.old (id_of_result done) share.new) }
 {
     match bench.go_on(rt, done, share) {
         Ok((_, given)) => Ok(given),
@@ -58,7 +57,7 @@ impl<'p, 'b, N: Naming> Seat<'p, 'b, N> {
         rt: &R,
         done: TicketedDone<N>,
     ) -> Result<Option<TicketedLoan<N>>, Rejected>
-        ensures share { MatchResult result (λ given. GoesOn self.old.share (id_of_result done) self.new.share (option_map id_of_loan given)) (λ r. (self.new.share ≡ self.old.share) × SomeCoreRejects r) }
+        ensures share { MatchResult result (λ given. GoesOnce self.old.share (id_of_result done) self.new.share (option_map id_of_loan given)) (ComesBack self.old.share (id_of_result done) self.new.share) }
         ensures rest { self.new ≡ with_share self.old self.new.share }
     {
         let pool = self.pool;
@@ -83,7 +82,7 @@ impl<'p, 'b, N: Naming> Seat<'p, 'b, N> {
         gate: &mut G,
         loan: TicketedLoan<N>,
     ) -> Result<(), Rejected>
-        ensures share { RunsOn self.old.share (id_of_loan loan) self.new.share result }
+        ensures runs { RunsOn self.old.share (id_of_loan loan) (HeldTimes G.holds gate.old gate.new) self.new.share result }
         ensures rest { self.new ≡ with_share self.old self.new.share }
     {
         let mut loan = loan;
@@ -97,16 +96,16 @@ impl<'p, 'b, N: Naming> Seat<'p, 'b, N> {
         self.settle_soon(rt, run_held(gate, loan))
     }
 
-    /// Fetches a loan, and runs it with the gate held. Its result is taken back under the lock, and its process lent again at once
-    /// for what is left of its time slice, at most 64 times: so a process that came to a call goes on. False where there was no
-    /// loan. Refused where the lending is, and where a result is not taken back.
+    /// Fetches a loan, and runs it. Its result is taken back under the lock, and its process lent again at once for what is left of
+    /// its time slice. So a process that came to a call goes on, at most 64 times. The gate is held before each run. False where
+    /// there was no loan. Refused where the lending is, and where a result is not taken back.
     pub(crate) fn turn_on<G: Gate, R: Wait>(
         &mut self,
         rt: &R,
         gate: &mut G,
         quantum: u32,
     ) -> Result<bool, WorkFault>
-        ensures { TurnsOn self.old quantum self.new result }
+        ensures { TurnsOn self.old quantum (HeldTimes G.holds gate.old gate.new) self.new result }
     {
         let loan = match self.fetch_ticketed(rt, quantum) {
             Ok(Some(loan)) => loan,

@@ -1,6 +1,9 @@
-//! A thread pool with work stealing, over one core. Each worker has a deque of loans, from which the others steal, and results lie
-//! in one queue until a worker that has the lock settles them. Read `Pool`, and then `Seat`. What goes into the queue or a deque
-//! comes out once or is still there (`Balanced`).
+//! A thread pool with work stealing, over one core. Read `Pool`, and then `Seat`. Each worker has a deque of loans, from which the
+//! others steal. What goes into a deque comes out once or is still there (`Balanced`).
+//!
+//! The threads of `pool_crew` call `Seat::turn_on`: a worker takes its loan's result back, and its process goes on. At a seat without
+//! a crew there is `Seat::turn`, or `fetch` and `hand_in`: results lie in one queue, with the same rule, until a worker that has the
+//! lock settles them.
 #![tactic(auto)]
 
 mod crewing;

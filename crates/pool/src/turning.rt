@@ -1,5 +1,6 @@
-//! `Seat::turn`: what a worker does at its seat.
-ghost use Rattle.std.specs.Prelude.{◌≡◌, ◌∷◌, ◌≤◌, ◌||◌, [], MatchResult};
+//! `Seat::turn`: a turn at a seat without a crew, by way of the queue of results. The turns of a crew are `Seat::turn_on` of
+//! `going_on.rt`; by `Seat::is_over` a worker of a crew asks whether the work is over.
+ghost use Rattle.std.specs.Prelude.{◌≡◌, ◌∷◌, ◌≤◌, ◌||◌, [], IfOk, MatchResult};
 ghost use Rattle.kernel_model.specs.Loans.{is_over};
 ghost use Rattle.bursts.specs.Benches.{OnBench};
 ghost use Rattle.bursts.specs.Totals.{Fit};
@@ -7,14 +8,14 @@ ghost use Rattle.bursts.specs.Holdings.{Holding, grown};
 ghost use Rattle.pool.specs.declared.settling.Settling.{Settling};
 ghost use Rattle.bursts.specs.LoanIds.{id_of_result};
 ghost use Rattle.pool.specs.Settled.{settling_of, after};
-ghost use Rattle.pool.specs.declared.told.Told.TheVariants as told_of;
-ghost use Rattle.pool.specs.Seats.{told_so};
 ghost use Rattle.pool.specs.Turns.{AllAccepted, Clears, Rejects, RejectsSoon, TurnsOut, HadNoLoan, Asks};
 
+use crate::going_on::run_held;
+use crate::locking::lock_soon;
 use crate::seats::Seat;
-use crate::settling::{Settling, Sums, accepted};
+use crate::settling::{Settling, Sums, accepted, settle_all};
 use crate::told::Told;
-use bursts::{Gate, Naming, Rejected, TicketedDone, TicketedLoan, WorkFault};
+use bursts::{Gate, Naming, Rejected, TicketedDone, WorkFault};
 use std::sync::Wait;
 
 /// What a turn at a seat came to.
@@ -24,13 +25,6 @@ pub enum Pooled {
     Idle,
     /// A loan was run and its result handed in, and these results were settled.
     Worked(Settling),
-}
-
-/// Holds the gate with a loan's process.
-fn hold_for<N: Naming, G: Gate>(gate: &mut G, loan: &TicketedLoan<N>)
-    ensures { G.holds gate.old loan.now.pid gate.new }
-{
-    gate.hold(loan.pid());
 }
 
 impl<'p, 'b, N: Naming> Seat<'p, 'b, N> {
@@ -102,32 +96,25 @@ impl<'p, 'b, N: Naming> Seat<'p, 'b, N> {
             Ok(None) => return Ok(Pooled::Idle),
             Err(why) => return Err(WorkFault::Lend(why)),
         };
-        hold_for(gate, &loan);
-        let done = loan.run();
-        match self.hand_in_and_settle(rt, done) {
+        match self.hand_in_and_settle(rt, run_held(gate, loan)) {
             Ok(sums) => Ok(Pooled::Worked(sums.ended(None))),
             Err(rejected) => Err(WorkFault::Settle(rejected)),
         }
     }
 
-    /// Asks the bench whether no process is lent and none lendable, or the work is to stop, and notes its answer.
-    fn is_bench_over<R: Wait>(&mut self, rt: &R, quantum: u32) -> bool
-        ensures bench { (b : OnBench) × (result ≡ (b.stopped || is_over b.core quantum)) }
-        ensures told { self.new ≡ told_so self.old (told_of.Over result) }
+    /// Settles what is in the queue, and says whether the work is over: no process is lent and none lendable, or the work is to
+    /// stop. It takes the lock once. Refused where a result is not taken back.
+    pub(crate) fn is_over<R: Wait>(&mut self, rt: &R, quantum: u32) -> Result<bool, Rejected>
+        ensures asks { Asks self.old self.new result }
+        ensures bench { IfOk result (λ over. (b : OnBench) × (over ≡ (b.stopped || is_over b.core quantum))) }
     {
         let pool = self.pool;
-        let over = pool.bench.lock(rt).over(quantum);
+        let mut guard = lock_soon(rt, &pool.bench);
+        let settling = settle_all(rt, &mut *guard, &mut self.results, &mut self.share);
+        accepted(settling)?;
+        let over = guard.over(quantum);
         self.told = self.told.and(&Told::Over(over));
-        over
-    }
-
-    /// Settles what is in the queue, and says whether the work is over: no process is lent and none lendable, or the work is to
-    /// stop. Refused where a result is not taken back.
-    pub(crate) fn is_over<R: Wait>(&mut self, rt: &R, quantum: u32) -> Result<bool, Rejected>
-        ensures { Asks self.old self.new result }
-    {
-        accepted(self.settle_all(rt))?;
-        Ok(self.is_bench_over(rt, quantum))
+        Ok(over)
     }
 
     /// Says at the bench that the work is to stop.
