@@ -44,7 +44,7 @@ REFUSALS = {
 
 def part(number):
     """Returns the file of a part of two of an exploration, with its sum."""
-    lines = f"bench explore part 1\nprograms {0:032x} limit 1000000 most-states 1000000 part {number} of 2\n"
+    lines = f"bench explore part 2\nprograms {0:032x} limit 1000000 most-states 1000000 most-calls 10000 part {number} of 2\n"
     lines += f"state {0:032x} 0 1\nstate {number:032x} 1 0\noutcome 1 ends 1:{number} shown - files -\ncomplete\n"
     return f"{lines}sum {hashlib.sha256(lines.encode()).hexdigest()[:32]}\n".encode()
 
@@ -139,6 +139,11 @@ COMMANDS = [
     ("page of crashes", 0, "page --json crash.script", b""),
     ("crashes", 0, "crashes first-run.script", b""),
     ("crashes with a recovery", 0, "crashes --jobs 1 --nested 0 --recover first.s first-run.script", b""),
+    ("crashes by a rule", 0, "crashes --model posix --jobs 1 --recover first.s first-run.script", b""),
+    ("crashes of all orders", 0, "crashes --all-orders --jobs 1 --nested 0 --recover first.s init", b""),
+    ("crashes of all orders that are cut", 8, "crashes --all-orders --jobs 1 --most-states 2 --recover first.s init", b""),
+    ("crashes of an order that ends badly", 126, "crashes --all-orders --jobs 1 --nested 0 --recover first.s stuck.s", b""),
+    ("a recovery that fails", 7, "crashes --jobs 1 --save . --recover wild.s first-run.script", b""),
     ("crashes expected", 7, "crashes --expect allowed.files first-run.script", b""),
     ("debug", 0, "debug first --trace trace", COMMANDS_OF_DEBUG),
     ("debug far", 0, "debug primes", LONG_DEBUG),

@@ -20,8 +20,8 @@ MOST_FILES = {
 }
 # Which words after `disk` name no file, by the first of them.
 NO_FILES = {"cat": (1, 3), "put": (1, 3), "diff": (1,)}
-# The commands whose file is a script.
-SCRIPT_COMMANDS = ("replay", "picture", "page", "crashes", "explore")
+# The commands whose file may be a script.
+SCRIPT_COMMANDS = ("replay", "picture", "page", "crashes", "explore", "debug", "gdb")
 FILE_OPTIONS = ("--trace", "--disk", "--tape", "--tape-of", "--expect", "--source", "--symbols", "--save", "--recover")
 NUMBER_OPTIONS = ("--workers", "--quantum", "--term", "--fail", "--status", "--cone", "--process", "--history", "--limit", "--seed", "--most-states", "--most-calls", "--model", "--apart", "--nested", "--jobs", "--part", "--log-of")
 IMAGE_LINE = re.compile(rb"^(image [0-9]+ )(?=[^/\s])", re.MULTILINE)

@@ -29,10 +29,10 @@ module _ {X Y : Type 0} (g : X → Y) where
   mapped xs x is = All-contains (λ z. Contains (map g xs) (g z)) xs x (each_mapped xs) is
 
   -- and each of these is made of an element
-  abbrev IsMade : List X → Y → Type 0
+  abbrev pub IsMade : List X → Y → Type 0
   IsMade xs y = (x : X) × Contains xs x × (g x ≡ y)
 
-  made : (xs : List X) (y : Y) → Contains (map g xs) y → IsMade xs y
+  pub made : (xs : List X) (y : Y) → Contains (map g xs) y → IsMade xs y
   made xs y is = All-contains (λ z. IsMade xs z) (map g xs) y
       (All-map (λ z. IsMade xs z) g xs (All-weaker (λ x. Contains xs x) (λ x. IsMade xs (g x)) (λ x here. (x, here, refl)) xs (All-contains_itself xs))) is
 

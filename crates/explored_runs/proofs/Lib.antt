@@ -1,8 +1,11 @@
+mod Answered
 mod BootDisks
 mod Footprints
 mod Joining
 mod JoiningParts
+mod Nexts
 mod Outputs
 mod Owning
 mod Replaying
+mod Shares
 mod Taking

@@ -1,5 +1,7 @@
 //! A level is shared among threads, and what they answer is put together in its order.
-ghost use Rattle.std.specs.Prelude.{◌<◌};
+ghost use Rattle.std.specs.Prelude.{◌<◌, List, IfOk};
+ghost use Rattle.disk_model.specs.declared.change.NamedFile.{NamedFile};
+ghost use Rattle.explored_runs.specs.Answering.{AreAfter, AreJoined, StandOn};
 
 use crate::runs::{After, Runs};
 use faults::Fault;
@@ -8,17 +10,23 @@ use std::alloc::Global;
 use std::thread;
 use std::thread::Threads;
 
-/// What comes after each state of a share, in its order. The fault is that of the first state that has one.
-fn share_of(runs: &Runs<'_>, share: &[Found<Vec<u32>>]) -> Result<Vec<After>, Fault> {
+/// What comes after each state of a share, in its order. The programs are booted once for it. The fault is that of the first state that has
+/// one.
+fn share_of(runs: &Runs<'_>, share: &[Found<Vec<u32>>]) -> Result<Vec<After>, Fault>
+    ensures { IfOk result (λ afters. (files : List NamedFile) → StandOn runs.now files → AreAfter runs.now files share.now afters.items) }
+{
+    let start = runs.begin()?;
     let mut afters = Vec::with_capacity(runs.alloc, share.len())?;
     for found in share {
-        afters.push(runs.after(found.state.as_slice())?)?;
+        afters.push(runs.after(&start, found.state.as_slice())?)?;
     }
     Ok(afters)
 }
 
 /// What all shares found, one after the other. The fault is that of the first share that has one.
-fn joined(alloc: Global, shares: Vec<Result<Vec<After>, Fault>>) -> Result<Vec<After>, Fault> {
+fn joined(alloc: Global, shares: Vec<Result<Vec<After>, Fault>>) -> Result<Vec<After>, Fault>
+    ensures { IfOk result (λ all. AreJoined shares.items all.items) }
+{
     let mut all = Vec::new(alloc);
     for share in shares {
         all.append(&mut share?)?;
@@ -39,16 +47,19 @@ pub fn after_each<R: Threads + Sync>(
     runs: &Runs<'_>,
     threads: usize,
     level: &[Found<Vec<u32>>],
-) -> Result<Vec<After>, Fault> {
+) -> Result<Vec<After>, Fault>
+    ensures { IfOk result (λ afters. (files : List NamedFile) → StandOn runs.now files → AreAfter runs.now files level.now afters.items) }
+{
     let size = share_size(level.len(), threads);
     let shares = thread::map_chunks(
         rt,
         runs.alloc,
         level,
         size,
-        &|_start: usize, share: &[Found<Vec<u32>>]| -> Result<Vec<After>, Fault> {
-            share_of(runs, share)
-        },
+        &|_start: usize, share: &[Found<Vec<u32>>]| -> Result<Vec<After>, Fault>
+            ensures { IfOk result (λ afters. (files : List NamedFile) → StandOn runs.entry.now files → AreAfter runs.entry.now files share.entry.now afters.items) }
+        { share_of(runs, share) },
     )?;
-    joined(runs.alloc, shares)
+    let all = joined(runs.alloc, shares)?;
+    Ok(all)
 }

@@ -234,6 +234,7 @@ pub fn explore_orders<R: Files + AllocGlobal + Threads + Sync, O: Write, E: Writ
                 programs: sum_of(alloc, setup)?,
                 instructions: u64::from(limits.instructions),
                 states: limits.states,
+                calls: limits.bounds().moves,
                 part,
             },
         ),

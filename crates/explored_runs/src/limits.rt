@@ -6,7 +6,7 @@ use std::thread;
 use std::thread::Threads;
 
 /// How many states each thread takes of a level before what they came to is put together.
-const TAKEN: usize = 64;
+const TAKEN: usize = 256;
 
 /// How many threads search where the host does not say how many processors it has.
 const FEW: usize = 4;

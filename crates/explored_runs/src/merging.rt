@@ -1,4 +1,7 @@
 //! Puts the parts of an exploration together.
+ghost use Rattle.std.specs.Prelude.{IfOk};
+ghost use Rattle.explored_runs.specs.PartFiles.{AreOfOne};
+
 use crate::findings::{Findings, print_outcome};
 use crate::levels::levels_of;
 use crate::outcome::Outcome;
@@ -31,11 +34,16 @@ struct Merging {
 }
 
 /// Refuses a part of something else than the first one is of.
-fn test_same(first: PartHead, head: PartHead) -> Result<(), PartFault> {
+fn test_same(first: PartHead, head: PartHead) -> Result<(), PartFault>
+    ensures { IfOk result (λ _. AreOfOne first head) }
+{
     if head.programs != first.programs {
         return Err(PartFault::OtherPrograms);
     }
-    if head.instructions != first.instructions || head.states != first.states {
+    if head.instructions != first.instructions
+        || head.states != first.states
+        || head.calls != first.calls
+    {
         return Err(PartFault::OtherLimits);
     }
     if head.part.of != first.part.of {

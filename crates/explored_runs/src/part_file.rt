@@ -7,7 +7,7 @@ use std::io::Write;
 use std::{fmt, io};
 
 /// The first line.
-pub const FORM: &str = "bench explore part 1";
+pub const FORM: &str = "bench explore part 2";
 
 /// The last line but one, where the part left no state.
 pub const COMPLETE: &str = "complete";
@@ -21,6 +21,8 @@ pub struct PartHead {
     pub instructions: u64,
     /// No further level is searched where more states were found.
     pub states: u64,
+    /// Nor one to whose states so many calls lead.
+    pub calls: u64,
     pub part: Part,
 }
 
@@ -57,6 +59,7 @@ pub fn write_head<O: Write>(head: PartHead, out: &mut O) -> io::Result<()> {
         programs,
         instructions,
         states,
+        calls,
         part,
     } = head;
     let programs = KeyText(programs);
@@ -64,7 +67,7 @@ pub fn write_head<O: Write>(head: PartHead, out: &mut O) -> io::Result<()> {
     writeln!(out, "{}", FORM)?;
     writeln!(
         out,
-        "programs {programs} limit {instructions} most-states {states} part {number} of {of}"
+        "programs {programs} limit {instructions} most-states {states} most-calls {calls} part {number} of {of}"
     )
 }
 

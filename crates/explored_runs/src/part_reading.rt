@@ -64,6 +64,8 @@ fn head_of(words: &[&str]) -> Option<PartHead> {
             instructions,
             "most-states",
             states,
+            "most-calls",
+            calls,
             "part",
             number,
             "of",
@@ -73,6 +75,7 @@ fn head_of(words: &[&str]) -> Option<PartHead> {
                 programs: key_of(programs)?,
                 instructions: decimal(instructions)?,
                 states: decimal(states)?,
+                calls: decimal(calls)?,
                 part: part_of(number, of)?,
             })
         }

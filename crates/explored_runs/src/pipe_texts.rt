@@ -1,5 +1,6 @@
 //! All bytes that were ever written to pipes. The core keeps those alone that are not read yet.
 use kernel::KernelTables;
+use pipes::Pipe;
 use std::alloc::{AllocError, Global};
 
 /// What was written to a pipe.
@@ -36,13 +37,18 @@ impl PipeTexts {
     }
 
     /// Looks at a pipe after one call, which either wrote to its end or read from its beginning.
-    fn look(&mut self, number: usize, held: &[u8]) -> Result<(), AllocError> {
+    fn look(&mut self, number: usize, pipe: &Pipe) -> Result<(), AllocError> {
+        let alloc = self.alloc;
         let Some(text) = self.texts.get_mut(number) else {
             return Ok(());
         };
-        let new = held.get(text.held..).unwrap_or(&[]);
-        text.written.extend_from_slice(new)?;
-        text.held = held.len();
+        let held = pipe.held();
+        if held > text.held {
+            let bytes = pipe.prefix(alloc, held)?;
+            let new = bytes.as_slice().get(text.held..).unwrap_or(&[]);
+            text.written.extend_from_slice(new)?;
+        }
+        text.held = held;
         Ok(())
     }
 
@@ -56,11 +62,25 @@ impl PipeTexts {
                 .ok()
                 .and_then(|it| tables.pipes.get(it))
             {
-                let held = pipe.prefix(self.alloc, pipe.held())?;
-                self.look(number, held.as_slice())?;
+                self.look(number, pipe)?;
             }
         }
         Ok(())
+    }
+
+    /// The same once more.
+    pub fn try_clone(&self) -> Result<PipeTexts, AllocError> {
+        let mut texts = Vec::with_capacity(self.alloc, self.texts.len())?;
+        for text in &self.texts {
+            texts.push(PipeText {
+                written: Vec::from_slice(self.alloc, text.written.as_slice())?,
+                held: text.held,
+            })?;
+        }
+        Ok(PipeTexts {
+            alloc: self.alloc,
+            texts,
+        })
     }
 
     /// What was written to the pipe of a number.

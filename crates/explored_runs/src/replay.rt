@@ -10,6 +10,7 @@ ghost use Rattle.explored_runs.specs.Replays.{IsRightly, does_something, seen_of
 use crate::core_calls::{enter, last_process, run_all, run_on_after};
 use crate::pipe_texts::PipeTexts;
 use crate::private::{MadeCall, is_private, last_reads, terminal_of};
+use crate::reply_sums::{Asked, ReplySums};
 use faults::Fault;
 use kernel::Core;
 use std::alloc::Global;
@@ -30,6 +31,7 @@ pub enum Called {
 pub struct Replay {
     pub core: Core,
     pub pipes: PipeTexts,
+    pub replies: ReplySums,
     /// How many instructions a process runs at most to its next call.
     limit: u32,
 }
@@ -47,7 +49,21 @@ impl Replay {
         Ok(Replay {
             core,
             pipes: PipeTexts::new(alloc),
+            replies: ReplySums::new(alloc),
             limit,
+        })
+    }
+
+    /// The same replay once more, on a copy of its core.
+    pub fn try_clone(&self, alloc: Global) -> Result<Replay, Fault>
+        ensures core { IfOk result (λ copy. copy.core ≡ self.now.core) }
+        ensures limit { IfOk result (λ copy. copy.limit ≡ self.now.limit) }
+    {
+        Ok(Replay {
+            core: self.core.try_clone(alloc)?,
+            pipes: self.pipes.try_clone()?,
+            replies: self.replies.try_clone()?,
+            limit: self.limit,
         })
     }
 
@@ -86,10 +102,12 @@ impl Replay {
     {
         let last = self.last_process();
         let terminal = terminal_of(&self.core, pid);
+        let asked = Asked::by(&self.core, pid);
         if !enter(&mut self.core, pid)? {
             return Ok(Called::Idle);
         }
         self.pipes.note(self.core.tables())?;
+        self.replies.note(&self.core, pid, asked)?;
         let called = self.kind_of(pid, terminal);
         run_on_after(&mut self.core, pid, last, self.limit)?;
         Ok(called)

@@ -1,6 +1,8 @@
 //! The search of runs, whoever is told what it finds.
-ghost use Rattle.std.specs.Prelude.{◌≡◌, [], IfOk, ⊤};
+ghost use Rattle.std.specs.Prelude.{◌≡◌, ◌++◌, [], ◌<◌, length, true, IfOk};
 ghost use Rattle.state_search.specs.Searches.{IsCut, IsWithin};
+ghost use Rattle.explored_runs.specs.Answering.{Expands};
+ghost use Rattle.explored_runs.specs.RunSearches.{FindsPartOfRuns, FindsRuns, IsFirstRun};
 
 use crate::call_search::{search_calls, search_calls_part};
 use crate::crew::after_each;
@@ -60,18 +62,27 @@ impl<L> Drop for RunSearch<'_, '_, '_, L> {
     }
 }
 
-impl<L: Listener> Moves for RunSearch<'_, '_, '_, L> {
+/// The first of some states, at most so many but at least one, and the others.
+fn parted(states: &[Found<Vec<u32>>], most: usize) -> (&[Found<Vec<u32>>], &[Found<Vec<u32>>])
+    requires { 0 < length states.now }
+    ensures all { result.0.now ++ result.1.now ≡ states.now }
+    ensures fewer { length result.1.now < length states.now }
+{
+    states.split_at(most.max(1).min(states.len()))
+}
+
+impl<'p, L: Listener> Moves for RunSearch<'_, 'p, '_, L> {
     type State = Vec<u32>;
 
     type Fault = L::Fault;
 
-    type Space = ();
+    type Space = Runs<'p>;
 
-    ghost space = { λ _. tt };
+    ghost space = { λ s. s.runs.now };
 
-    ghost begins = { λ _ first. first.state.items ≡ [] };
+    ghost begins = { λ _ first. IsFirstRun first };
 
-    ghost expands = { λ _ _ _. ⊤ };
+    ghost expands = { λ r level next. Expands r level next };
 
     fn first(&mut self) -> Result<Reached<Vec<u32>>, L::Fault> {
         Ok(self.runs.first()?)
@@ -83,9 +94,9 @@ impl<L: Listener> Moves for RunSearch<'_, '_, '_, L> {
         level: &[Found<Vec<u32>>],
     ) -> Result<Vec<Reached<Vec<u32>>>, L::Fault> {
         let mut next = Vec::new(self.runs.alloc);
-        let mut left = level.len();
-        for states in level.chunks(taken_by(self.threads)) {
-            left = left.saturating_sub(states.len());
+        let mut rest = level;
+        while !rest.is_empty() {
+            let (states, later) = parted(rest, taken_by(self.threads));
             let afters = after_each(rt, self.runs, self.threads, states)?;
             let Sorted {
                 mut reached,
@@ -101,16 +112,18 @@ impl<L: Listener> Moves for RunSearch<'_, '_, '_, L> {
                     calls,
                     over,
                     visited,
-                    left,
+                    left: later.len(),
                 },
             )?;
+            rest = later;
         }
         self.listener.end_level()?;
         Ok(next)
     }
 }
 
-/// Searches all runs, by so many threads.
+/// Searches all runs, by so many threads. If keys told the states apart, it found the end of each complete order of no more calls than its
+/// depth. And if it left no state, it found the outcomes of every run.
 pub fn search_runs<R: Threads + Sync, L: Listener>(
     rt: &R,
     runs: &Runs<'_>,
@@ -118,6 +131,7 @@ pub fn search_runs<R: Threads + Sync, L: Listener>(
     listener: &mut L,
     bounds: Bounds,
 ) -> Result<Searched<Vec<u32>>, L::Fault>
+    ensures finds { IfOk result (λ found. FindsRuns runs.now found.gone_on.items found.left.items found.depth) }
     ensures cut { IfOk result (λ found. IsCut found.gone_on.items found.left.items found.depth bounds) }
     ensures within { IfOk result (λ found. IsWithin found.gone_on.items found.depth bounds) }
 {
@@ -132,7 +146,8 @@ pub fn search_runs<R: Threads + Sync, L: Listener>(
     }
 }
 
-/// Searches a part of all runs.
+/// Searches a part of all runs. If keys told the states of all parts apart, it goes on to states of all parts. So where each of them is one
+/// from which some part went on, all parts together found what `search_runs` finds that left no state.
 pub fn search_runs_part<R: Threads + Sync, L: Listener>(
     rt: &R,
     runs: &Runs<'_>,
@@ -141,6 +156,7 @@ pub fn search_runs_part<R: Threads + Sync, L: Listener>(
     bounds: Bounds,
     part: Part,
 ) -> Result<PartSearched<Vec<u32>>, L::Fault>
+    ensures finds { IfOk result (λ found. FindsPartOfRuns runs.now found.searched.gone_on.items found.searched.left.items found.others.items found.searched.depth) }
     ensures cut { IfOk result (λ found. IsCut found.searched.gone_on.items found.searched.left.items found.searched.depth bounds) }
     ensures within { IfOk result (λ found. IsWithin found.searched.gone_on.items found.searched.depth bounds) }
 {
@@ -149,5 +165,8 @@ pub fn search_runs_part<R: Threads + Sync, L: Listener>(
         threads,
         listener,
     };
-    search_calls_part(rt, runs.alloc, &mut search, bounds, part)
+    match search_calls_part(rt, runs.alloc, &mut search, bounds, part) {
+        Ok(found) => Ok(found),
+        Err(why) => Err(why),
+    }
 }

@@ -1,6 +1,7 @@
-//! Runs as a search sees them. A run is the processes whose calls lead to it, and is replayed from its boot.
-ghost use Rattle.std.specs.Prelude.{◌≡◌, ◌∷◌, ◌++◌, [], true, IfOk};
-ghost use Rattle.explored_runs.specs.Booting.{AreFilesOf, boot_of};
+//! Runs as a search sees them. A run is the processes whose calls lead to it, and is replayed on a copy of a core that was booted.
+ghost use Rattle.std.specs.Prelude.{◌≡◌, ◌∷◌, ◌++◌, [], List, true, false, IfOk};
+ghost use Rattle.disk_model.specs.declared.change.NamedFile.{NamedFile};
+ghost use Rattle.explored_runs.specs.Answering.{IsCopyOf, IsNext, IsRunOf, StandOn, boot_in};
 ghost use Rattle.explored_runs.specs.Replays.{IsTried, is_idle, seen_after_calls, seen_of};
 
 use crate::outcome::{Outcome, outcome_of};
@@ -75,12 +76,12 @@ fn reached_by(
     alloc: Global,
     calls: &[u32],
     pid: u32,
-    replay: &mut Replay,
-) -> Result<Reached<Vec<u32>>, Fault>
+    replay: &Replay,
+) -> Result<Reached<Vec<u32>>, AllocError>
     ensures { IfOk result (λ reached. reached.state.items ≡ calls.now ++ pid ∷ []) }
 {
     Ok(Reached {
-        key: key_of(alloc, replay)?,
+        key: key_of(replay),
         state: with_call(alloc, calls, pid)?,
     })
 }
@@ -94,18 +95,33 @@ fn alone(alloc: Global, reached: Reached<Vec<u32>>) -> Result<Vec<Reached<Vec<u3
 }
 
 impl Runs<'_> {
-    /// Boots, and makes these calls.
-    pub fn replay(&self, calls: &[u32]) -> Result<Replay, Fault>
-        ensures seen { IfOk result (λ replay. seen_of replay.core ≡
-            seen_after_calls self.now.instructions (boot_of self.now.programs.now.given.items self.now.programs.now.tapes.items replay.core.boot.files) calls.now) }
-        ensures files { IfOk result (λ replay. AreFilesOf self.now.programs.now.disk replay.core.boot.files) }
-        ensures limit { IfOk result (λ replay. replay.limit ≡ self.now.instructions) }
+    /// Boots: the run of no calls.
+    pub fn begin(&self) -> Result<Replay, Fault>
+        ensures { IfOk result (IsRunOf self.now []) }
     {
         let core = self.programs.boot(self.alloc)?;
-        let mut replay = Replay::begin(self.alloc, core, self.instructions)?;
+        let replay = Replay::begin(self.alloc, core, self.instructions)?;
+        Ok(replay)
+    }
+
+    /// Makes these calls on a copy of the run of none.
+    pub fn replay_on(&self, start: &Replay, calls: &[u32]) -> Result<Replay, Fault>
+        requires { IsRunOf self.now [] start.now }
+        ensures { IfOk result (IsRunOf self.now calls.now) }
+    {
+        let mut replay = start.try_clone(self.alloc)?;
         for pid in calls {
             replay.call(*pid)?;
         }
+        Ok(replay)
+    }
+
+    /// Boots, and makes these calls.
+    pub fn replay(&self, calls: &[u32]) -> Result<Replay, Fault>
+        ensures { IfOk result (IsRunOf self.now calls.now) }
+    {
+        let start = self.begin()?;
+        let replay = self.replay_on(&start, calls)?;
         Ok(replay)
     }
 
@@ -113,9 +129,9 @@ impl Runs<'_> {
     pub fn first(&self) -> Result<Reached<Vec<u32>>, Fault>
         ensures { IfOk result (λ first. first.state.items ≡ []) }
     {
-        let mut replay = self.replay(&[])?;
+        let start = self.begin()?;
         Ok(Reached {
-            key: key_of(self.alloc, &mut replay)?,
+            key: key_of(&start),
             state: Vec::new(self.alloc),
         })
     }
@@ -144,34 +160,44 @@ impl Runs<'_> {
         Ok(Some(VisitedState::of(self.alloc, calls, replay)?))
     }
 
-    /// What is found of the run of these calls.
-    pub fn after(&self, calls: &[u32]) -> Result<After, Fault> {
-        let replay = self.replay(calls)?;
+    /// What is found of the run of these calls, where this is the run of none.
+    pub fn after(&self, start: &Replay, calls: &[u32]) -> Result<After, Fault>
+        requires { IsRunOf self.now [] start.now }
+        ensures { IfOk result (λ after. (files : List NamedFile) → StandOn self.now files
+            → IsNext self.now.instructions (seen_after_calls self.now.instructions (boot_in self.now files) calls.now) calls.now after.next) }
+    {
+        let replay = self.replay_on(start, calls)?;
         Ok(After {
             visited: self.visited(calls, &replay)?,
             next: self.next(calls, replay)?,
         })
     }
 
-    /// A replay of these calls: this one, unless a call was made in it.
-    fn unused(&self, calls: &[u32], replay: Replay, is_used: bool) -> Result<Replay, Fault> {
+    /// A copy of a replay: this one, unless a call was made in it.
+    fn unused(&self, replay: &Replay, copy: Replay, is_used: bool) -> Result<Replay, Fault>
+        requires { is_used ≡ false → IsCopyOf replay.now copy }
+        ensures { IfOk result (IsCopyOf replay.now) }
+    {
         if is_used {
-            self.replay(calls)
+            Ok(replay.try_clone(self.alloc)?)
         } else {
-            Ok(replay)
+            Ok(copy)
         }
     }
 
     /// The runs after one more call: after a private one alone, if there is one, or after each that does something. It is over where none
-    /// does.
-    fn next(&self, calls: &[u32], replay: Replay) -> Result<Next, Fault> {
-        let mut replay = replay;
+    /// does. Each call is made on a copy of this run, which is that of these calls.
+    fn next(&self, calls: &[u32], replay: Replay) -> Result<Next, Fault>
+        requires { replay.limit ≡ self.now.instructions }
+        ensures { IfOk result (IsNext self.now.instructions (seen_of replay.core) calls.now) }
+    {
+        let mut copy = replay.try_clone(self.alloc)?;
         let mut reached = Vec::new(self.alloc);
         let mut is_used = false;
         for place in 0..replay.last_process() {
-            replay = self.unused(calls, replay, is_used)?;
+            copy = self.unused(&replay, copy, is_used)?;
             is_used = false;
-            match self.try_call(&mut replay, calls, place + 1)? {
+            match self.try_call(&mut copy, calls, place + 1)? {
                 Tried::Idle => {}
                 Tried::Made(run) => {
                     reached.push(run)?;
@@ -183,6 +209,6 @@ impl Runs<'_> {
         if !reached.is_empty() {
             return Ok(Next::More(reached));
         }
-        Ok(Next::Over(outcome_of(self.alloc, calls, &mut replay)?))
+        Ok(Next::Over(outcome_of(self.alloc, calls, &mut copy)?))
     }
 }

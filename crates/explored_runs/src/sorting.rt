@@ -1,4 +1,7 @@
 //! What was found of runs, sorted out.
+ghost use Rattle.std.specs.Prelude.{◌≡◌, IfOk};
+ghost use Rattle.explored_runs.specs.Answering.{reached_in};
+
 use crate::outcome::Outcome;
 use crate::runs::{After, Next};
 use crate::visited::VisitedState;
@@ -19,7 +22,9 @@ pub struct Sorted {
 }
 
 /// Sorts out what was found of some runs.
-pub fn sort_out(alloc: Global, afters: Vec<After>) -> Result<Sorted, AllocError> {
+pub fn sort_out(alloc: Global, afters: Vec<After>) -> Result<Sorted, AllocError>
+    ensures { IfOk result (λ sorted. sorted.reached.items ≡ reached_in afters.items) }
+{
     let mut reached = Vec::new(alloc);
     let mut over = Vec::new(alloc);
     let mut visited = Vec::new(alloc);

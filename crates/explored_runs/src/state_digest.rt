@@ -23,6 +23,15 @@ impl StateDigest {
         self.hasher.update(bytes.as_slice());
     }
 
+    pub fn byte(&mut self, byte: u8) {
+        self.hasher.update(&[byte]);
+    }
+
+    pub fn sum(&mut self, sum: Key) {
+        self.number(sum.high);
+        self.number(sum.low);
+    }
+
     pub fn bytes(&mut self, bytes: &[u8]) {
         self.number(bytes.len() as u64);
         self.text(bytes);
@@ -37,10 +46,10 @@ impl StateDigest {
     pub fn option(&mut self, number: Option<u64>) {
         match number {
             Some(number) => {
-                self.number(1);
+                self.byte(1);
                 self.number(number);
             }
-            None => self.number(0),
+            None => self.byte(0),
         }
     }
 

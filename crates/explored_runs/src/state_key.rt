@@ -1,15 +1,11 @@
 //! What tells a run from others: a digest of its whole state.
 use crate::replay::Replay;
 use crate::state_digest::StateDigest;
-use elf32::write;
-use faults::Fault;
 use files::FileTable;
 use input_reading::MOST_TAPE_BYTES;
-use kernel::{Core, KernelTables, Refused};
+use kernel::{Core, KernelTables};
 use kernel_model::{Descriptor, PipeEnd, TAPES, TERMINALS};
-use machine_model::Reply;
 use state_search::Key;
-use std::alloc::{AllocError, Global};
 
 fn digest_descriptor(digest: &mut StateDigest, descriptor: Descriptor) {
     let (kind, number) = match descriptor {
@@ -19,11 +15,11 @@ fn digest_descriptor(digest: &mut StateDigest, descriptor: Descriptor) {
         Descriptor::Pipe(PipeEnd::Read(pipe)) => (4, u64::from(pipe)),
         Descriptor::Pipe(PipeEnd::Write(pipe)) => (5, u64::from(pipe)),
     };
-    digest.number(kind);
+    digest.byte(kind);
     digest.number(number);
     if let Descriptor::File { offset, writes, .. } = descriptor {
         digest.number(u64::from(offset));
-        digest.number(if writes { 1 } else { 0 });
+        digest.byte(if writes { 1 } else { 0 });
     }
 }
 
@@ -34,7 +30,7 @@ fn digest_descriptors(digest: &mut StateDigest, tables: KernelTables<'_>, pid: u
     for slot in descriptors.as_slice() {
         match slot {
             Some(descriptor) => digest_descriptor(digest, *descriptor),
-            None => digest.number(0),
+            None => digest.byte(0),
         }
     }
 }
@@ -46,53 +42,24 @@ fn digest_children(digest: &mut StateDigest, children: &[u32]) {
     }
 }
 
-fn digest_reply(alloc: Global, digest: &mut StateDigest, reply: &Reply) -> Result<(), AllocError> {
-    digest.number(u64::from(reply.a0));
-    digest.number(u64::from(reply.at));
-    digest.bytes(reply.bytes.as_slice());
-    match &reply.image {
-        Some(image) => {
-            let file = write(alloc, image)?;
-            digest.bytes(file.as_slice());
-        }
-        None => digest.number(0),
-    }
-    Ok(())
-}
-
 /// The machine of a process: it is a function of what its program began as, of the replies to its calls, and of how far it ran.
-fn digest_machine(
-    alloc: Global,
-    digest: &mut StateDigest,
-    core: &Core,
-    pid: u32,
-) -> Result<(), AllocError> {
-    if let Ok(machine) = core.machine(pid) {
+fn digest_machine(digest: &mut StateDigest, replay: &Replay, pid: u32) {
+    if let Ok(machine) = replay.core.machine(pid) {
         digest.number(u64::from(machine.pc()));
         digest.number(machine.count());
     }
-    let replies = core.trace(pid).unwrap_or(&[]);
-    digest.number(replies.len() as u64);
-    for reply in replies {
-        digest_reply(alloc, digest, reply)?;
-    }
-    Ok(())
+    digest.sum(replay.replies.of(pid));
 }
 
-fn digest_processes(
-    alloc: Global,
-    digest: &mut StateDigest,
-    replay: &Replay,
-) -> Result<(), AllocError> {
+fn digest_processes(digest: &mut StateDigest, replay: &Replay) {
     let tables = replay.core.tables();
     digest.number(u64::from(replay.last_process()));
     for pid in 1..=replay.last_process() {
-        digest_machine(alloc, digest, &replay.core, pid)?;
+        digest_machine(digest, replay, pid);
         digest_descriptors(digest, tables, pid);
         digest_children(digest, tables.processes.children(pid));
         digest.option(tables.processes.status(pid).map(|status| u64::from(status)));
     }
-    Ok(())
 }
 
 fn digest_files(digest: &mut StateDigest, files: &FileTable) {
@@ -133,23 +100,14 @@ fn digest_ends(digest: &mut StateDigest, core: &Core) {
     }
 }
 
-/// Commits all changes, so that all replies are handed out.
-fn commit(core: &mut Core) -> Result<(), Fault> {
-    match core.drain() {
-        Err(Refused::OutOfMemory) => Err(Fault::OutOfMemory),
-        _ => Ok(()),
-    }
-}
-
 /// The key of a run: the first 128 bits of the SHA-256 digest of its state. The state is that of each process, with all replies that
 /// it got, the files with their numbers, the pipes with all that was ever written to them, and what is left of tapes and was
-/// written to terminals. All changes are committed by this.
-pub fn key_of(alloc: Global, replay: &mut Replay) -> Result<Key, Fault> {
-    commit(&mut replay.core)?;
+/// written to terminals.
+pub fn key_of(replay: &Replay) -> Key {
     let mut digest = StateDigest::new();
-    digest_processes(alloc, &mut digest, replay)?;
+    digest_processes(&mut digest, replay);
     digest_files(&mut digest, replay.core.tables().files);
     digest_pipes(&mut digest, replay);
     digest_ends(&mut digest, &replay.core);
-    Ok(digest.key())
+    digest.key()
 }

@@ -1,12 +1,16 @@
 //! Visits each state of a search of all orders.
+use crate::ends::end_of;
 use crate::limits::Limits;
+use crate::outcome::Outcome;
 use crate::programs::Programs;
+use crate::replay::Replay;
 use crate::run_search::{Heard, Listener, search_runs};
 use crate::runs::Runs;
 use crate::saved::lines_of;
 use crate::totals::Totals;
 use crate::visited::VisitedState;
 use faults::Fault;
+use kernel::Core;
 use scripts::Setup;
 use std::alloc::AllocError;
 use std::rt::Files;
@@ -19,21 +23,25 @@ pub trait StateTaker {
     /// Why no more are taken.
     type Fault: From<Fault> + From<AllocError> + Drop;
 
-    /// Takes the next states, which are in the order in which they were found. Threads may share the work.
+    /// Takes the next states, which are in the order in which they were found. So many of the level are left then. Threads may share the
+    /// work.
     fn take<R: Threads + Sync>(
         &mut self,
         rt: &R,
         states: Vec<VisitedState>,
+        left: usize,
     ) -> Result<(), Self::Fault>
         requires { IsSync R.row };
 }
 
 /// How far a search came whose states were taken.
-#[derive(Clone, Copy)]
+#[derive(Drop)]
 pub struct ExploredStates {
     pub totals: Totals,
     /// Whether a process ran as far as it may in some end, and came to no call.
     pub runs_on: bool,
+    /// The processes whose calls lead to the first end that `exec` does not end with status 0, of fewest calls.
+    pub ends_badly: Option<Vec<u32>>,
 }
 
 /// Hands the states of a search to a taker.
@@ -41,6 +49,8 @@ struct Visiting<'t, T> {
     taker: &'t mut T,
     /// Whether a process ran as far as it may in some end, and came to no call.
     runs_on: bool,
+    /// The processes whose calls lead to the first end that is no good one.
+    ends_badly: Option<Vec<u32>>,
 }
 
 impl<T> Drop for Visiting<'_, T> {
@@ -48,7 +58,31 @@ impl<T> Drop for Visiting<'_, T> {
         let Visiting {
             taker: _,
             runs_on: _,
+            ends_badly: _ends_badly,
         } = self;
+    }
+}
+
+/// Whether `exec` ends with status 0 where programs end so: the first one has that status, and nothing waits for ever.
+fn ends_well(text: &str) -> bool {
+    let Some((ends, _rest)) = text.split_once(" shown ") else {
+        return false;
+    };
+    ends.split(' ').any(|end| end == "1:0") && ends.split_once(":waits-").is_none()
+}
+
+impl<T> Visiting<'_, T> {
+    /// Notes what a run came to.
+    fn note(&mut self, outcome: Outcome) {
+        let Outcome {
+            text,
+            calls,
+            runs_on,
+        } = outcome;
+        self.runs_on = self.runs_on || runs_on;
+        if self.ends_badly.is_none() && !ends_well(text.as_str()) {
+            self.ends_badly = Some(calls);
+        }
     }
 }
 
@@ -56,13 +90,42 @@ impl<T: StateTaker> Listener for Visiting<'_, T> {
     type Fault = T::Fault;
 
     fn hear<R: Threads + Sync>(&mut self, rt: &R, heard: Heard<'_>) -> Result<(), T::Fault> {
-        let Heard { over, visited, .. } = heard;
-        self.runs_on = self.runs_on || over.iter().any(|outcome| outcome.runs_on);
-        self.taker.take(rt, visited)
+        let Heard {
+            over,
+            visited,
+            left,
+            ..
+        } = heard;
+        for outcome in over {
+            self.note(outcome);
+        }
+        self.taker.take(rt, visited, left)
     }
 
     fn end_level(&mut self) -> Result<(), T::Fault> {
         Ok(())
+    }
+}
+
+impl<T: StateTaker> Visiting<'_, T> {
+    /// Searches all runs, and says how far it came.
+    fn search<R: Threads + Sync>(
+        mut self,
+        rt: &R,
+        runs: &Runs<'_>,
+        limits: Limits,
+    ) -> Result<ExploredStates, T::Fault> {
+        let searched = search_runs(rt, runs, limits.threads(rt), &mut self, limits.bounds())?;
+        let Visiting {
+            taker: _,
+            runs_on,
+            ends_badly,
+        } = self;
+        Ok(ExploredStates {
+            totals: Totals::of(&searched),
+            runs_on,
+            ends_badly,
+        })
     }
 }
 
@@ -82,21 +145,29 @@ pub fn explore_states<R: Files + AllocGlobal + Threads + Sync, T: StateTaker>(
         instructions: limits.instructions,
         visits: true,
     };
-    let mut visiting = Visiting {
+    let visiting = Visiting {
         taker,
         runs_on: false,
+        ends_badly: None,
     };
-    let searched = search_runs(
-        rt,
-        &runs,
-        limits.threads(rt),
-        &mut visiting,
-        limits.bounds(),
-    )?;
-    Ok(ExploredStates {
-        totals: Totals::of(&searched),
-        runs_on: visiting.runs_on,
-    })
+    visiting.search(rt, &runs, limits)
+}
+
+/// The run of these calls.
+fn run_of_calls<R: Files + AllocGlobal>(
+    rt: &R,
+    setup: &mut Setup,
+    instructions: u32,
+    calls: &[u32],
+) -> Result<Replay, Fault> {
+    let programs = Programs::of_setup(rt, setup)?;
+    let runs = Runs {
+        alloc: rt.alloc(),
+        programs: &programs,
+        instructions,
+        visits: false,
+    };
+    runs.replay(calls)
 }
 
 /// The run of these calls as lines of a script: its events, and `drain`.
@@ -106,16 +177,26 @@ pub fn lines_of_calls<R: Files + AllocGlobal>(
     instructions: u32,
     calls: &[u32],
 ) -> Result<String, Fault> {
-    let alloc = rt.alloc();
-    let programs = Programs::of_setup(rt, setup)?;
-    let runs = Runs {
-        alloc,
-        programs: &programs,
-        instructions,
-        visits: false,
-    };
-    let replay = runs.replay(calls)?;
-    let mut lines = lines_of(alloc, replay.core.history())?;
+    let replay = run_of_calls(rt, setup, instructions, calls)?;
+    let mut lines = lines_of(rt.alloc(), replay.core.history())?;
     lines.push_str("drain\n")?;
     Ok(lines)
+}
+
+/// The core at the end to which these calls lead. What waits there has tried its call once more, and all is committed.
+pub fn end_of_calls<R: Files + AllocGlobal>(
+    rt: &R,
+    setup: &mut Setup,
+    instructions: u32,
+    calls: &[u32],
+) -> Result<Core, Fault> {
+    let mut replay = run_of_calls(rt, setup, instructions, calls)?;
+    for pid in 1..=replay.last_process() {
+        end_of(&mut replay, pid)?;
+    }
+    let Replay { mut core, .. } = replay;
+    match core.drain() {
+        Ok(()) => Ok(core),
+        Err(_) => Err(Fault::OutOfMemory),
+    }
 }

@@ -1,5 +1,5 @@
 //! The command `crashes`: crashes of a script, or of programs.
-use crate::crash_orders::recover_orders;
+use crate::crash_orders::{OrdersTested, recover_orders};
 use crate::crash_subject::{CrashSubject, program_in, subject_in};
 use crate::script_files::of_files;
 use command_line::{CrashOptions, ModelName, OrderBounds};
@@ -7,12 +7,13 @@ use crash_recoveries::{
     Course, CrashModel, Effort, Failure, Part, Recovery, Rule, RunEnd, Subject, Tested, Trial,
     Verdict, explore, explore_by, save, try_recoveries,
 };
-use exec_reports::{print_ending, status_of_run};
+use exec_reports::{Family, print_ending, status_of_run};
 use exec_runs::Ending;
 use faults::{Fault, write_line};
 use host_files::text_in;
 use kernel::Core;
 use scripts::Setup;
+use std::fmt;
 use std::io::{Read, Write};
 use std::rt::Files;
 use std::thread::Threads;
@@ -71,23 +72,63 @@ fn tell_cut<E: Write>(options: &CrashOptions<'_>, err: &mut E) -> Result<u8, Fau
     Ok(NOT_ALL)
 }
 
-/// Says how the programs ended, if they did not end well, and gives the exit status: that of their run. How those of a script end is
-/// the script's affair.
+/// Writes numbers, each after a space.
+fn write_all<W: fmt::Write>(f: &mut fmt::Formatter<W>, numbers: &[u32]) -> fmt::Result {
+    for number in numbers {
+        write!(f, " {number}")?;
+    }
+    Ok(())
+}
+
+/// The line of a run whose programs did not end well, and of an order of calls its processes, in that order.
+#[derive(Clone, Copy)]
+struct FailedRun<'a> {
+    status: u8,
+    calls: Option<&'a [u32]>,
+}
+
+impl fmt::Display for FailedRun<'_> {
+    fn fmt<W: fmt::Write>(&self, f: &mut fmt::Formatter<W>) -> fmt::Result {
+        let status = self.status;
+        let Some(calls) = self.calls else {
+            return write!(f, "bench: run failed: status {status}");
+        };
+        write!(
+            f,
+            "bench: run failed in some order: status {status}, calls of processes"
+        )?;
+        write_all(f, calls)
+    }
+}
+
+/// Says how the programs of a run ended, if they did not end well, and gives the exit status: that of the run. Of an order of calls these
+/// are its processes.
+fn tell_run<E: Write>(
+    family: &mut Family,
+    core: &Core,
+    calls: Option<&[u32]>,
+    err: &mut E,
+) -> Result<u8, Fault> {
+    family.forget_executed(core);
+    print_ending(core, family, Ending::Over, err)?;
+    let status = status_of_run(core, Ending::Over);
+    if status != 0 {
+        write_line(err, FailedRun { status, calls })?;
+    }
+    Ok(status)
+}
+
+/// Says how the programs ended, as `tell_run` does. How those of a script end is the script's affair.
 fn tell_programs<E: Write>(
     subject: &mut CrashSubject,
     core: Option<&Core>,
     err: &mut E,
 ) -> Result<u8, Fault> {
-    let (Some(core), Course::ToEnd { .. }) = (core, &subject.course) else {
-        return Ok(0);
-    };
-    subject.family.forget_executed(core);
-    print_ending(core, &subject.family, Ending::Over, err)?;
-    let status = status_of_run(core, Ending::Over);
-    if status != 0 {
-        write_line(err, format_args!("bench: run failed: status {status}"))?;
+    let is_told = matches!(subject.course, Course::ToEnd { .. });
+    match core {
+        Some(core) if is_told => tell_run(&mut subject.family, core, None, err),
+        _ => Ok(0),
     }
-    Ok(status)
 }
 
 /// Prints what each crash leaves, or compares it with what is expected. Gives how the run ended.
@@ -124,7 +165,7 @@ fn explore_in<R: Files + AllocGlobal + Threads + Sync, O: Write, E: Write>(
     }
 }
 
-/// Keeps a recovery that failed, if it is to be kept, and says why it failed.
+/// Says why a recovery failed, and keeps it, if it is to be kept.
 fn end_failed<R: Files + AllocGlobal, E: Write>(
     rt: &R,
     options: &CrashOptions<'_>,
@@ -134,12 +175,66 @@ fn end_failed<R: Files + AllocGlobal, E: Write>(
     err: &mut E,
 ) -> Result<u8, Fault> {
     let (mut failure, played) = failed;
+    failure.tell(&mut recovery.family, err)?;
     if let Some(folder) = options.save {
         let program = &recovery.program;
         save(rt, folder, setup, program, &mut failure, played.as_str())?;
     }
-    failure.tell(&mut recovery.family, err)?;
     Ok(FAILED)
+}
+
+/// What came of the recoveries, and what the exit status is where none failed and all was tried.
+#[derive(Drop)]
+struct Judged {
+    verdict: Verdict,
+    status: u8,
+}
+
+/// Has the recovery run on what crashes of all orders leave. Says how the first order ended that did not end well.
+fn judge_orders<R: Files + AllocGlobal + Threads + Sync, O: Write, E: Write>(
+    rt: &R,
+    subject: &mut CrashSubject,
+    recovery: &Recovery,
+    bounds: OrderBounds,
+    effort: Effort,
+    out: &mut O,
+    err: &mut E,
+) -> Result<Judged, Fault> {
+    let setup = &mut subject.setup;
+    let OrdersTested { tested, calls } = recover_orders(
+        rt, setup, recovery, bounds, effort, out, err,
+    )?;
+    out.flush()?;
+    let Tested { verdict, core } = tested;
+    let status = match (&verdict, &core) {
+        (Verdict::Kept, Some(core)) => {
+            tell_run(&mut subject.family, core, Some(calls.as_slice()), err)?
+        }
+        _ => 0,
+    };
+    Ok(Judged { verdict, status })
+}
+
+/// Has the recovery run on what crashes of the run leave. Says how it ended, if its programs did not end well.
+fn judge_run<R: Files + AllocGlobal + Threads + Sync, O: Write, E: Write>(
+    rt: &R,
+    subject: &mut CrashSubject,
+    recovery: &Recovery,
+    trial: Trial,
+    out: &mut O,
+    err: &mut E,
+) -> Result<Judged, Fault> {
+    let run = Subject {
+        setup: &mut subject.setup,
+        course: &subject.course,
+    };
+    let Tested { verdict, core } = try_recoveries(rt, run, recovery, trial, out, err)?;
+    out.flush()?;
+    let status = match &verdict {
+        Verdict::Kept => tell_programs(subject, core.as_ref(), err)?,
+        _ => 0,
+    };
+    Ok(Judged { verdict, status })
 }
 
 /// Has the recovery run on what crashes leave: those of all orders, or of the run.
@@ -150,17 +245,12 @@ fn test_recovery<R: Files + AllocGlobal + Threads + Sync, O: Write, E: Write>(
     recovery: &Recovery,
     out: &mut O,
     err: &mut E,
-) -> Result<Tested, Fault> {
+) -> Result<Judged, Fault> {
     let trial = trial_of(options);
-    if let Some(bounds) = options.orders {
-        let (setup, effort) = (&mut subject.setup, trial.effort);
-        return recover_orders(rt, setup, recovery, bounds, effort, out, err);
+    match options.orders {
+        Some(bounds) => judge_orders(rt, subject, recovery, bounds, trial.effort, out, err),
+        None => judge_run(rt, subject, recovery, trial, out, err),
     }
-    let run = Subject {
-        setup: &mut subject.setup,
-        course: &subject.course,
-    };
-    try_recoveries(rt, run, recovery, trial, out, err)
 }
 
 /// Has the recovery run on what each crash leaves, and gives the exit status.
@@ -174,10 +264,9 @@ fn recover_in<R: Files + AllocGlobal + Threads + Sync, O: Write, E: Write>(
 ) -> Result<u8, Fault> {
     let program = program_in(rt, path)?;
     let mut recovery = Recovery::new(rt.alloc(), program, options.limit, options.nested)?;
-    let Tested { verdict, core } = test_recovery(rt, options, subject, &recovery, out, err)?;
-    out.flush()?;
+    let Judged { verdict, status } = test_recovery(rt, options, subject, &recovery, out, err)?;
     match verdict {
-        Verdict::Kept => tell_programs(subject, core.as_ref(), err),
+        Verdict::Kept => Ok(status),
         Verdict::Failed(failure, played) => {
             let (setup, failed) = (&subject.setup, (failure, played));
             end_failed(rt, options, setup, &mut recovery, failed, err)

@@ -1,31 +1,72 @@
 //! Crashes of all orders of the calls of programs.
+ghost use Rattle.std.specs.Prelude.{◌≡◌, true, false, IfOk};
+ghost use Rattle.crash_recoveries.specs.Verdicts.{is_kept};
+
 use crate::exploring::limits_of;
 use command_line::OrderBounds;
 use crash_recoveries::{
     Effort, Orders, OrdersTried, Recovery, SearchedStates, Stop, Tested, Verdict,
 };
-use explored_runs::{ExploredStates, StateTaker, VisitedState, explore_states, lines_of_calls};
+use explored_runs::{
+    ExploredStates, StateTaker, VisitedState, end_of_calls, explore_states, lines_of_calls,
+};
 use faults::{ExplorationFault, Fault};
+use progress::{Progress, ProgressCount};
 use scripts::Setup;
-use std::io::Write;
+use std::alloc::Global;
+use std::io::{self, Sink, Write};
 use std::rt::Files;
 use std::thread::Threads;
 
-/// Hands states on to what runs the recovery on them.
+/// What came of the recoveries, and the calls of the order whose end `tested` has, if one ends badly.
 #[derive(Drop)]
-struct Handing<'a, R, E> {
-    orders: Orders<'a, R, E>,
+pub struct OrdersTested {
+    pub tested: Tested,
+    pub calls: Vec<u32>,
 }
 
-impl<R: Files + AllocGlobal, E: Write> StateTaker for Handing<'_, R, E> {
+/// Hands states on to what runs the recovery on them, and tells how many there were.
+#[derive(Drop)]
+struct Handing<'a, 'e, R, E> {
+    rt: &'a R,
+    orders: Orders<'a, R, Sink>,
+    progress: Progress<'e, E>,
+    /// How many states it was handed.
+    done: u64,
+}
+
+impl<R: Files + AllocGlobal, E: Write> Handing<'_, '_, R, E> {
+    /// Tells how far the search has come, where so many states of a level are left.
+    fn tell(&mut self, left: usize) {
+        if self.progress.is_due(self.rt) {
+            self.progress.tell(ProgressCount {
+                what: "states",
+                done: self.done,
+                left: left as u64,
+                part: "level",
+            });
+        }
+    }
+}
+
+impl<R: Files + AllocGlobal, E: Write> StateTaker for Handing<'_, '_, R, E> {
     type Fault = Stop;
 
     /// It is settled after each state: so what is printed is the same, however many states come at once.
-    fn take<T: Threads + Sync>(&mut self, rt: &T, states: Vec<VisitedState>) -> Result<(), Stop> {
+    fn take<T: Threads + Sync>(
+        &mut self,
+        rt: &T,
+        states: Vec<VisitedState>,
+        left: usize,
+    ) -> Result<(), Stop> {
+        let mut left = left.saturating_add(states.len());
         for state in &states {
             let (shown, calls) = (state.shown.as_slice(), state.calls.as_slice());
             self.orders.take(&state.files, shown, calls)?;
             self.orders.settle(rt)?;
+            self.done = self.done.saturating_add(1);
+            left = left.saturating_sub(1);
+            self.tell(left);
         }
         Ok(())
     }
@@ -45,7 +86,10 @@ fn parted(
 }
 
 /// The verdict where no recovery failed and the search came so far. Where it left states, that is the fault.
-fn verdict_of(explored: ExploredStates) -> Result<Verdict, Fault> {
+fn verdict_of(explored: &ExploredStates) -> Result<Verdict, Fault>
+    ensures whole { IfOk result (λ _. explored.now.totals.left ≡ 0) }
+    ensures kept { IfOk result (λ verdict. is_kept verdict ≡ true → explored.now.runs_on ≡ false) }
+{
     let (left, calls) = (explored.totals.left, explored.totals.depth);
     if left > 0 {
         return Err(Fault::from(ExplorationFault::Cut { left, calls }));
@@ -74,8 +118,42 @@ fn with_lines<R: Files + AllocGlobal>(
     }
 }
 
+/// What came of recoveries none of which failed, by how far the search came.
+fn tested_of<R: Files + AllocGlobal>(
+    rt: &R,
+    setup: &mut Setup,
+    instructions: u32,
+    explored: ExploredStates,
+) -> Result<OrdersTested, Fault> {
+    let verdict = verdict_of(&explored)?;
+    let ExploredStates { ends_badly, .. } = explored;
+    let Some(calls) = ends_badly else {
+        return Ok(all_well(rt.alloc(), verdict));
+    };
+    let core = end_of_calls(rt, setup, instructions, calls.as_slice())?;
+    Ok(OrdersTested {
+        tested: Tested {
+            verdict,
+            core: Some(core),
+        },
+        calls,
+    })
+}
+
+/// A verdict, where no order is known that ends badly.
+fn all_well(alloc: Global, verdict: Verdict) -> OrdersTested {
+    OrdersTested {
+        tested: Tested {
+            verdict,
+            core: None,
+        },
+        calls: Vec::new(alloc),
+    }
+}
+
 /// Has the recovery run on what is left by crashes of all orders of the calls of what is set up. Cut where none of those that were run
 /// failed, and a process came to no call in as many instructions as it may have. Where the search left states then, that is the fault.
+/// Where all were run and none failed, it has the end of the first order that `exec` does not end with status 0.
 pub fn recover_orders<R: Files + AllocGlobal + Threads + Sync, O: Write, E: Write>(
     rt: &R,
     setup: &mut Setup,
@@ -84,20 +162,27 @@ pub fn recover_orders<R: Files + AllocGlobal + Threads + Sync, O: Write, E: Writ
     effort: Effort,
     out: &mut O,
     err: &mut E,
-) -> Result<Tested, Fault> {
+) -> Result<OrdersTested, Fault> {
     let limits = limits_of(bounds, effort.jobs);
+    let mut nowhere = io::sink();
+    // The states are told of, and not the recoveries.
+    let progress = Progress::new(rt, err, effort.progress);
+    let effort = Effort {
+        progress: false,
+        ..effort
+    };
     let mut handing = Handing {
-        orders: Orders::new(rt, recovery, effort, err),
+        rt,
+        orders: Orders::new(rt, recovery, effort, &mut nowhere),
+        progress,
+        done: 0,
     };
     let (explored, searched) = parted(explore_states(rt, setup, limits, &mut handing));
-    let Handing { orders } = handing;
+    let Handing { orders, .. } = handing;
     let tried = orders.finish(rt, searched, out)?;
-    let verdict = match (with_lines(rt, setup, bounds.instructions, tried)?, explored) {
-        (Verdict::Kept, Some(explored)) => verdict_of(explored)?,
-        (verdict, _) => verdict,
-    };
-    Ok(Tested {
-        verdict,
-        core: None,
-    })
+    let instructions = bounds.instructions;
+    match (with_lines(rt, setup, instructions, tried)?, explored) {
+        (Verdict::Kept, Some(explored)) => tested_of(rt, setup, instructions, explored),
+        (verdict, _) => Ok(all_well(rt.alloc(), verdict)),
+    }
 }

@@ -1,14 +1,17 @@
 //! The command `debug`: an image is debugged with a trace, or with `--live` a process, whose calls a kernel answers.
 use crate::fault::of_session;
+use crate::script_files::of_script;
 use command_line::LiveOptions;
 use debug_commands::debug;
-use faults::Fault;
-use host_files::{image_in, replies_in, source_lines_in};
+use faults::{Fault, at_path};
+use host_files::{image_in, image_of_file, replies_in, source_lines_in};
 use kernel::{Core, Event, Refused};
 use machine_model::Image;
 use recorder::Recorder;
 use run_files::boot_live;
+use scripts::{Script, Setup, is_script};
 use std::alloc::Global;
+use std::fs;
 use std::io::{Read, Write};
 use std::rt::Files;
 use timeline::Origin;
@@ -93,15 +96,68 @@ fn await_process(
     Err(Fault::Process { process })
 }
 
-/// The image from which a process of a run of images descends, and the kernel that answers the calls of the process. Refused is a
-/// process that no fork makes.
+/// The core of what a script sets up, and the images.
+fn boot_script<R: Files + AllocGlobal>(
+    rt: &R,
+    path: &str,
+    script: Script,
+) -> Result<(Core, Vec<Image>), Fault> {
+    let mut setup = script.into_setup();
+    let core = of_script(rt, path, setup.boot(rt, None))?;
+    let mut images = Vec::new(rt.alloc());
+    for program in setup.programs.as_mut_slice() {
+        images.push(program.source.image(rt)?)?;
+    }
+    Ok((core, images))
+}
+
+/// The core of an image whose file has these bytes, and the image.
+fn boot_image<R: Files + AllocGlobal>(
+    rt: &R,
+    path: &str,
+    bytes: Vec<u8>,
+) -> Result<(Core, Vec<Image>), Fault> {
+    let image = image_of_file(rt.alloc(), path, bytes.as_slice())?;
+    let mut setup = Setup::new(rt.alloc());
+    setup.push_binary(bytes)?;
+    let core = setup.boot(rt, None)?;
+    Ok((core, vec![in rt.alloc(); image]?))
+}
+
+/// The core of the only file of a session, which is read once: of an image, or of what a script sets up.
+fn boot_file<R: Files + AllocGlobal>(rt: &R, path: &str) -> Result<(Core, Vec<Image>), Fault> {
+    let alloc = rt.alloc();
+    let bytes = at_path(alloc, path, fs::read(rt, path))?;
+    let script = match str::from_utf8(bytes.as_slice()) {
+        Ok(text) if !text.is_empty() && is_script(text) => Some(Script::parse(alloc, text)),
+        _ => None,
+    };
+    match script {
+        Some(script) => boot_script(rt, path, of_script(rt, path, script)?),
+        None => boot_image(rt, path, bytes),
+    }
+}
+
+/// The core of a session, and its images. A script has tapes and a disk of its own.
+fn boot_session<R: Files + AllocGlobal>(
+    rt: &R,
+    options: &LiveOptions<'_>,
+) -> Result<(Core, Vec<Image>), Fault> {
+    match (options.images.as_slice(), options.tape, options.disk) {
+        ([path], None, None) => boot_file(rt, path),
+        _ => boot_live(rt, options),
+    }
+}
+
+/// The image from which a process of a run of images, or of what a script sets up, descends, and the kernel that answers the calls of the
+/// process. Refused is a process that no fork makes.
 pub fn process_in<R: Files + AllocGlobal>(
     rt: &R,
     options: &LiveOptions<'_>,
 ) -> Result<(Image, Origin), Fault> {
     let alloc = rt.alloc();
     let process = options.process;
-    let (core, mut images) = boot_live(rt, options)?;
+    let (core, mut images) = boot_session(rt, options)?;
     let mut recorder = Recorder::new(alloc, core, process);
     let place = await_process(alloc, &mut recorder, process, images.len())?;
     if place >= images.len() {
@@ -139,8 +195,8 @@ pub fn debug_file<R: Files + AllocGlobal, I: Read, O: Write>(
     debug_image(rt, image, origin, source, input, out)
 }
 
-/// Debugs a process of a run of images, by the commands on the input. A kernel answers its calls, and nothing is written to the
-/// disk's file. Refused is a process that no fork makes.
+/// Debugs a process of a run of images, or of what a script sets up, by the commands on the input. A kernel answers its calls, and
+/// nothing is written to the disk's file. Refused is a process that no fork makes.
 pub fn debug_live<R: Files + AllocGlobal, I: Read, O: Write>(
     rt: &R,
     options: &LiveOptions<'_>,

@@ -1,5 +1,5 @@
 -- Keys, and sets of them.
-use Rattle.std.proofs.Common.{arith, ◌≡◌, Bool, true, false, cond, refl}
+use Rattle.std.proofs.Common.{arith, ◌≡◌, Bool, true, false, cond}
 use Rattle.std.specs.Prelude.{◌||◌}
 use Rattle.std.proofs.lemmas.Grind.{common_steps}
 use Rattle.state_search.specs.declared.key.Key.{Key}

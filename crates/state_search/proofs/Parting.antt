@@ -1,12 +1,10 @@
 -- States are shared out one by one.
-use Rattle.std.proofs.Common.{arith, ◌≡◌, ◌⊎◌, ◌++◌, ◌∷◌, [], ◌==◌, ◌+◌, ℕ, List, Bool, true, false, ap, refl, subst, inl, inr}
+use Rattle.std.proofs.Common.{arith, ◌≡◌, ◌⊎◌, ◌++◌, ◌∷◌, [], ◌==◌, ℕ, List, Bool, true, false, ap, refl, subst, inl, inr}
 use Rattle.std.specs.Prelude.{if◌then◌else◌}
 use Rattle.std.specs.List.{Contains}
 use Rattle.std.proofs.lemmas.List.{length-append}
 use Rattle.std.proofs.lemmas.List.Elements.{Contains-append_left, Contains-push, Contains-push_cases}
 use Rattle.state_search.specs.Going.{IsParted, next_turn, own_from}
-use Rattle.state_search.specs.Searches.{times}
-use Rattle.state_search.specs.declared.key.Key.{Key}
 use Rattle.state_search.specs.declared.moves.Found.{Found}
 use Rattle.state_search.proofs.Counting.{times-append}
 

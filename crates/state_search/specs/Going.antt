@@ -1,5 +1,5 @@
 -- A search that goes on, or a part of one.
-use Rattle.std.specs.Prelude.{◌≡◌, ℕ, ◌+◌, ◌==◌, nat_le, if◌then◌else◌, List, length, [], ◌∷◌, ◌++◌, ◌⊎◌, true}
+use Rattle.std.specs.Prelude.{◌≡◌, ℕ, ◌+◌, ◌*◌, ◌==◌, ◌&&◌, nat_le, Bool, if◌then◌else◌, List, length, [], ◌∷◌, ◌++◌, ◌⊎◌}
 use Rattle.std.specs.List.{Contains}
 use Rattle.std.specs.HashSet.{HashSet}
 use Rattle.state_search.specs.Adding.{one_if}
@@ -38,3 +38,15 @@ next_turn of turn = if nat_le of turn then 1 else turn + 1
 abbrev pub own_from : {S : Type 0} → ℕ → ℕ → ℕ → List (Found S) → List (Found S)
 own_from number of turn [] = []
 own_from number of turn (f ∷ fs) = if turn == number then f ∷ own_from number of (next_turn of turn) fs else own_from number of (next_turn of turn) fs
+
+-- a level is shared out among so many parts where it has 64 states for each
+abbrev pub is_enough : ℕ → ℕ → Bool
+is_enough of states = nat_le (64 * of) states
+
+-- and that once: before it no state was left to others
+abbrev pub is_shared_out : {S : Type 0} → ℕ → List (Found S) → List (Found S) → Bool
+is_shared_out of others level = (length others == 0) && is_enough of (length level)
+
+-- what a part keeps of a level: its own where the level is shared out, else all
+abbrev pub kept_by : {S : Type 0} → ℕ → ℕ → List (Found S) → List (Found S) → List (Found S)
+kept_by number of others level = if is_shared_out of others level then own_from number of 1 level else level

@@ -1,6 +1,6 @@
 //! Parts of a search: how the states of a level are shared out.
 ghost use Rattle.std.specs.Prelude.{◌≡◌, IfOk};
-ghost use Rattle.state_search.specs.Going.{IsParted, next_turn as turn_after, own_from};
+ghost use Rattle.state_search.specs.Going.{IsParted, is_enough as are_enough, next_turn as turn_after, own_from};
 
 use crate::moves::Found;
 use std::alloc::{AllocError, Global};
@@ -31,8 +31,13 @@ fn next_turn(turn: u64, of: u64) -> u64
 
 impl Part {
     /// Whether so many states are shared out.
-    pub fn is_enough(self, states: usize) -> bool {
-        states as u64 >= STATES_FOR_EACH.saturating_mul(self.of)
+    pub fn is_enough(self, states: usize) -> bool
+        ensures { result ≡ are_enough self.of states }
+    {
+        match STATES_FOR_EACH.checked_mul(self.of) {
+            Some(least) => states as u64 >= least,
+            None => false,
+        }
     }
 
     /// Shares out states, one after the other to the first part, to the second, and so on, and again to the first.

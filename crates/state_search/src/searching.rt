@@ -2,7 +2,7 @@
 ghost use Rattle.std.specs.Prelude.{◌≡◌, ◌∷◌, ◌++◌, [], ◌<◌, ◌+◌, ◌^◌, ◌-◌, nat_lt, IfOk};
 ghost use Rattle.std.specs.Bool.{OnFalse, OnTrue};
 ghost use Rattle.state_search.specs.Adding.{AreAdded};
-ghost use Rattle.state_search.specs.Going.{AreLeft, IsGoing};
+ghost use Rattle.state_search.specs.Going.{AreLeft, IsGoing, is_shared_out as shared_out, kept_by};
 ghost use Rattle.state_search.specs.Searches.{IsCut, IsPart, IsSearched, IsWithin, MayGoOn};
 
 use crate::bounds::Bounds;
@@ -114,7 +114,9 @@ impl<S: Drop> Going<S> {
     }
 
     /// Whether the last level is the one whose states are shared out among parts.
-    fn is_shared_out(&self, part: Part) -> bool {
+    fn is_shared_out(&self, part: Part) -> bool
+        ensures { result ≡ shared_out part.of self.now.others.items self.now.searched.left.items }
+    {
         self.others.is_empty() && part.is_enough(self.searched.left.len())
     }
 }
@@ -123,6 +125,7 @@ impl<S: Drop> Going<S> {
 fn leave_others<S: Drop>(alloc: Global, going: Going<S>, part: Part) -> Result<Going<S>, AllocError>
     ensures left { IfOk result (λ next. AreLeft going.known.set next.known.set going.searched.gone_on.items going.searched.left.items going.others.items
         next.searched.gone_on.items next.searched.left.items next.others.items) }
+    ensures own { IfOk result (λ next. next.searched.left.items ≡ kept_by part.number part.of going.others.items going.searched.left.items) }
     ensures depth { IfOk result (λ next. next.searched.depth ≡ going.searched.depth) }
 {
     if !going.is_shared_out(part) {

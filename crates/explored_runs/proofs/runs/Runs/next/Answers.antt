@@ -1,0 +1,68 @@
+-- One process more was asked, and in the end all.
+use Rattle.std.proofs.Common.{arith, rules, ◌≡◌, ◌∙◌, ◌++◌, ◌∷◌, [], ◌+◌, ℕ, suc, List, length, ap, inr, subst, sym}
+use Rattle.std.specs.Global.{Vec}
+use Rattle.std.specs.Vec.{vec_len}
+use Rattle.std.proofs.lemmas.Bool.{false≢true}
+use Rattle.kernel_model.specs.State.{SyncState}
+use Rattle.order_laws.specs.Moves.{Seen}
+use Rattle.state_search.specs.declared.moves.Reached.{Reached}
+use Rattle.explored_runs.specs.Answering.{ways, with_each, working}
+use Rattle.explored_runs.specs.Replays.{IsTried, is_idle, seen_of}
+use Rattle.explored_runs.specs.declared.runs.Tried.{Tried}
+use Rattle.explored_runs.proofs.Nexts.{asked_idle, asked_made, empty_of, none_asked, not_empty, tried_in}
+use Rattle.explored_runs.proofs.Replaying.{seen_sync}
+use Rattle.explored_runs.proofs.runs.Runs.next.Goals as goal
+use Rattle.explored_runs.proofs.runs.Runs.next.Goals.{in-Idle, in-Made+in_ok-push-in-Made}
+
+pub loop-place-preserved : goal.loop-place-preserved
+loop-place-preserved c =
+    let n = c.args.self.now.instructions in
+    let s = seen_of c.args.replay.core in
+    let ps = c.args.calls.now in
+    let rs = c.loop-place.reached.items in
+    let k = c.loop-place.place in
+    let asked = c.loop-place.invariant.asked in
+    let stands = c.in_ok-copy-2.ensures in
+    let next : k + 1 ≡ suc k = omega arith in
+    let tried = tried_in n c.args.replay c.in_ok-copy-2.copy ps (k + 1) c.in_ok-try_call.field-0 c.requires stands c.in_ok-try_call.ensures.tried in
+    record {
+      asked = elim c.match-branch-4.branch [
+        | in-Idle w ↦
+            let idle = subst (λ (t : Tried). IsTried n s ps (k + 1) t) w.in-Idle.is tried in
+            rw w.reached-is (asked_idle n s ps rs k asked (k + 1) next idle)
+        | in-Made+in_ok-push-in-Made w ↦
+            let made = subst (λ (t : Tried). IsTried n s ps (k + 1) t) w.in-Made.is tried in
+            rw (w.reached-is, w.in_ok-push-in-Made.ensures.items) (asked_made n s ps rs k asked (k + 1) next w.in-Made.run' made.0 made.1)
+      ];
+      copy = elim c.match-branch-4.branch [
+        | in-Idle w ↦ λ _.
+            let idle = ap is_idle w.in-Idle.is in
+            record { seen = c.in_ok-try_call.ensures.idle idle ∙ stands.seen; limit = c.in_ok-try_call.ensures.limit idle ∙ stands.limit }
+        | in-Made+in_ok-push-in-Made w ↦ λ unused. absurd (false≢true (sym unused ∙ w.is_used-is))
+      ];
+    }
+
+pub returns-then-not-is_empty : goal.returns-then-not-is_empty
+returns-then-not-is_empty c =
+    let n = c.args.self.now.instructions in
+    let s = seen_of c.args.replay.core in
+    let ps = c.args.calls.now in
+    let rs = c.loop-place.reached.items in
+    let last : c.loop-place.place ≡ c.last_process-place-end.result = omega (arith, c.loop-place-test.false, c.loop-place.auto.place-end) in
+    let many : c.loop-place.place ≡ length s.sync.processes = last ∙ c.last_process-place-end.ensures ∙ sym (ap (λ (u : SyncState). length u.processes) (seen_sync c.args.replay.core)) in
+    let all = subst (λ k. ways rs ≡ with_each ps (working n s k)) many c.loop-place.invariant.asked in
+    let size : vec_len c.loop-place.reached ≡ length rs = search rules in
+    (inr all, not_empty rs (vec_len c.loop-place.reached) size (sym c.is_empty.ensures ∙ c.if-not-is_empty.true))
+
+pub returns : goal.returns
+returns c =
+    let n = c.args.self.now.instructions in
+    let s = seen_of c.args.replay.core in
+    let ps = c.args.calls.now in
+    let rs = c.loop-place.reached.items in
+    let last : c.loop-place.place ≡ c.last_process-place-end.result = omega (arith, c.loop-place-test.false, c.loop-place.auto.place-end) in
+    let many : c.loop-place.place ≡ length s.sync.processes = last ∙ c.last_process-place-end.ensures ∙ sym (ap (λ (u : SyncState). length u.processes) (seen_sync c.args.replay.core)) in
+    let all = subst (λ k. ways rs ≡ with_each ps (working n s k)) many c.loop-place.invariant.asked in
+    let size : vec_len c.loop-place.reached ≡ length rs = search rules in
+    let none = empty_of rs (vec_len c.loop-place.reached) size (sym c.is_empty.ensures ∙ c.if-not-is_empty.false) in
+    (none_asked n s ps rs all none, c.in_ok-outcome_of.ensures)

@@ -1,0 +1,90 @@
+-- Runs that are replayed, and what a search of runs is answered: for each run those of one call more.
+use Rattle.std.specs.Prelude.{◌≡◌, ℕ, zero, suc, ◌⊎◌, if◌then◌else◌, List, [], ◌∷◌, ◌++◌, map, length, Result, Ok, Err}
+use Rattle.std.specs.Global.{Vec}
+use Rattle.disk_model.specs.declared.change.NamedFile.{NamedFile}
+use Rattle.kernel_model.specs.World.{Boot}
+use Rattle.order_laws.specs.Moves.{Seen, calls}
+use Rattle.order_laws.specs.Orders.{IsOver}
+use Rattle.order_laws.specs.Privacy.{IsPrivate}
+use Rattle.state_search.specs.declared.moves.Found.{Found}
+use Rattle.state_search.specs.declared.moves.Reached.{Reached}
+use Rattle.explored_runs.specs.Booting.{AreFilesOf, boot_of}
+use Rattle.explored_runs.specs.Replays.{seen_after_calls, seen_of}
+use Rattle.explored_runs.specs.declared.replay.Replay.{Replay}
+use Rattle.explored_runs.specs.declared.runs.After.{After}
+use Rattle.explored_runs.specs.declared.runs.Next.{Next}
+use Rattle.explored_runs.specs.declared.runs.Next.TheVariants.{More, Over}
+use Rattle.explored_runs.specs.declared.runs.Runs.{Runs}
+
+-- the boot of what is explored, where these files stand on its disk
+abbrev pub boot_in : Runs → List NamedFile → Boot
+boot_in r files = boot_of r.programs.now.given.items r.programs.now.tapes.items files
+
+abbrev pub StandOn : Runs → List NamedFile → Type 0
+StandOn r files = AreFilesOf r.programs.now.disk files
+
+-- The run of these calls was replayed: the programs were booted on some files, which stand on the disk that is given, and then these calls were made.
+pub record IsRunOf (r : Runs) (ps : List ℕ) (x : Replay) : Type 0 where
+  pub seen : seen_of x.core ≡ seen_after_calls r.instructions (boot_in r x.core.boot.files) ps
+  pub files : StandOn r x.core.boot.files
+  pub limit : x.limit ≡ r.instructions
+
+-- the second stands where the first does
+pub record IsCopyOf (x y : Replay) : Type 0 where
+  pub seen : seen_of y.core ≡ seen_of x.core
+  pub limit : y.limit ≡ x.limit
+
+-- the processes, up to the k-th, whose calls do something
+abbrev pub working : ℕ → Seen → ℕ → List ℕ
+working n s zero = []
+working n s (suc k) = working n s k ++ (if (calls n).works ((calls n).label s (suc k)) then suc k ∷ [] else [])
+
+-- these calls, and one of each of these processes
+abbrev pub with_each : List ℕ → List ℕ → List (List ℕ)
+with_each ps qs = map (λ q. ps ++ q ∷ []) qs
+
+-- the calls of runs that were answered
+abbrev pub ways : List (Reached (Vec ℕ)) → List (List ℕ)
+ways rs = map (λ r. r.state.items) rs
+
+-- These runs were answered after one of calls ps that comes to s: that of one private call more, or those of each call that does something, in the
+-- order of their processes.
+abbrev pub AreNext : ℕ → Seen → List ℕ → List (Reached (Vec ℕ)) → Type 0
+AreNext n s ps rs = ((p : ℕ) × IsPrivate s p × (ways rs ≡ with_each ps (p ∷ []))) ⊎ (ways rs ≡ with_each ps (working n s (length s.sync.processes)))
+
+-- What comes after it is such runs, at least one; or it is over, and this is its outcome.
+abbrev pub IsNext : ℕ → Seen → List ℕ → Next → Type 0
+IsNext n s ps (More rs) = AreNext n s ps rs.items × (rs.items ≡ [] → ⊥)
+IsNext n s ps (Over o) = IsOver (calls n) s × (o.calls.items ≡ ps)
+
+-- for each of these runs, in their order, it was answered what comes after it
+abbrev pub AreAfter : Runs → List NamedFile → List (Found (Vec ℕ)) → List After → Type 0
+AreAfter r files [] [] = Unit {0}
+AreAfter r files [] (a ∷ more) = ⊥
+AreAfter r files (f ∷ fs) [] = ⊥
+AreAfter r files (f ∷ fs) (a ∷ more) = IsNext r.instructions (seen_after_calls r.instructions (boot_in r files) f.state.items) f.state.items a.next × AreAfter r files fs more
+
+-- what was found by each share, none of which has a fault, is put together
+abbrev pub AreJoined : {E : Type 0} → List (Result (Vec After) E) → List After → Type 0
+AreJoined [] all = all ≡ []
+AreJoined (Ok xs ∷ shares) all = (rest : List After) × (all ≡ xs.items ++ rest) × AreJoined shares rest
+AreJoined (Err why ∷ shares) all = ⊥
+
+-- the runs of one call more that are in what was found
+abbrev pub reached_by_next : Next → List (Reached (Vec ℕ))
+reached_by_next (More rs) = rs.items
+reached_by_next (Over o) = []
+
+abbrev pub reached_in : List After → List (Reached (Vec ℕ))
+reached_in [] = []
+reached_in (a ∷ more) = reached_by_next a.next ++ reached_in more
+
+-- what came after each of these runs, one after the other
+abbrev pub AreAnswered : Runs → List NamedFile → List (Found (Vec ℕ)) → List (Reached (Vec ℕ)) → Type 0
+AreAnswered r files [] next = next ≡ []
+AreAnswered r files (f ∷ fs) next = (own : List (Reached (Vec ℕ))) × (rest : List (Reached (Vec ℕ)))
+    × AreNext r.instructions (seen_after_calls r.instructions (boot_in r files) f.state.items) f.state.items own × (next ≡ own ++ rest) × AreAnswered r files fs rest
+
+-- so a level was answered, whichever files stand on the disk: they are the same in each boot
+abbrev pub Expands : Runs → List (Found (Vec ℕ)) → List (Reached (Vec ℕ)) → Type 0
+Expands r level next = (files : List NamedFile) → StandOn r files → AreAnswered r files level next
