@@ -1,6 +1,7 @@
 //! `Batch`: disks on which the recovery is run together, and again after its own crashes.
-ghost use Rattle.std.specs.Prelude.{◌≡◌, MatchOption, vec_len};
+ghost use Rattle.std.specs.Prelude.{◌≡◌, ◌==◌, not, IfOk, MatchOption, vec_len};
 
+use crate::asked::Asked;
 use crate::nested::NestedCrash;
 use crate::pending::{Job, Pending, Tally};
 use crate::point::{CrashPoint, with_crash};
@@ -21,6 +22,8 @@ pub struct Batch {
     pub disks: Vec<Pending>,
     pub jobs: Vec<Job>,
     pub seen: Vec<Seen>,
+    /// What the recoveries asked for.
+    pub asked: Asked,
     /// The first disk, by its place, on which a recovery failed, and after which crashes of recoveries.
     pub failed: Option<Job>,
 }
@@ -50,6 +53,7 @@ impl Batch {
             jobs: first_jobs(alloc, disks.len())?,
             disks,
             seen,
+            asked: Asked::new(alloc),
             failed: None,
         })
     }
@@ -123,17 +127,21 @@ impl Batch {
         ran: Ran,
         nested: u32,
         tried: &mut Tried,
-    ) -> Result<bool, AllocError> {
+    ) -> Result<bool, AllocError>
+        ensures { IfOk result (λ has_failed. has_failed ≡ not (ran.status == 0)) }
+    {
         let Ran {
-            has_failed,
+            status,
+            asked,
             crashes,
             left,
         } = ran;
         self.count(job.disk, crashes);
+        self.asked.join(alloc, &asked)?;
         for crash in left {
             self.follow(alloc, job, crash, nested, tried)?;
         }
-        Ok(has_failed)
+        Ok(status != 0)
     }
 
     /// Takes what came of the recoveries that were to be run, in their order, up to the first that failed. Those that are to be run next

@@ -3,10 +3,12 @@
 //! Read `explore` first, which prints what crashes leave, and then `try_recoveries`. That runs the recovery on each disk that a crash
 //! leaves, and also after crashes of the recovery itself. A `Trier` visits the run, or a `WindowTrier` by other rules of commits; what
 //! they find a `Taker` takes. Their `Tester` has threads (`crew`) run recoveries, a `Batch` together, which `Nested` visits; each tries
-//! crashes on a `Mirror` of the disk. The first recovery that fails is a `Failure`. `Orders` runs the recovery on states that a search of
+//! crashes on a `Mirror` of the disk. By `Sights` it leaves out what no recovery can tell from what was tried. The first recovery that
+//! fails is a `Failure`. `Orders` runs the recovery on states that a search of
 //! all orders of calls shows it. Only safety is proved.
 #![tactic(auto)]
 
+mod asked;
 mod batch;
 mod course;
 mod crew;
@@ -25,6 +27,7 @@ mod promise;
 mod recovery;
 mod running;
 mod saving;
+mod sights;
 mod stop;
 mod taker;
 mod testing;

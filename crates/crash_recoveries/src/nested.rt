@@ -1,7 +1,9 @@
 //! Crashes of a recovery.
+use crate::asked::Asked;
 use crate::digests::digest_of_files;
 use crate::mirror::{Mirror, differ_by_fill};
 use crate::point::{CrashPlace, CrashPoint};
+use crate::running::Ran;
 use crash_outcomes::{FILLS, Fill, Moment, moment_of, outcome_of};
 use faults::Fault;
 use kernel::{Answer, Core, Event};
@@ -17,7 +19,7 @@ pub struct NestedCrash {
     pub digest: String,
 }
 
-/// The visitor of a recovery that tries its crashes, if they are to be tried.
+/// The visitor of a recovery that notes what it asks for, and tries its crashes, if they are to be tried.
 #[derive(Drop)]
 pub struct Nested {
     alloc: Global,
@@ -26,6 +28,7 @@ pub struct Nested {
     before: u64,
     is_tried: bool,
     known: HashSet<String>,
+    asked: Asked,
     /// How many crashes were tried.
     crashes: u64,
     /// What they left, each disk once.
@@ -41,15 +44,26 @@ impl Nested {
             before,
             is_tried,
             known: HashSet::new(alloc),
+            asked: Asked::new(alloc),
             crashes: 0,
             left: Vec::new(alloc),
         }
     }
 
-    /// How many crashes were tried, and what they left.
-    pub fn into_crashes(self) -> (u64, Vec<NestedCrash>) {
-        let Nested { crashes, left, .. } = self;
-        (crashes, left)
+    /// What came of the recovery, which ended with this status.
+    pub fn into_ran(self, status: u8) -> Ran {
+        let Nested {
+            asked,
+            crashes,
+            left,
+            ..
+        } = self;
+        Ran {
+            status,
+            asked,
+            crashes,
+            left,
+        }
     }
 
     fn try_crash(&mut self, core: &Core, moment: Moment, fill: Fill) -> Result<(), Fault> {
@@ -74,6 +88,7 @@ impl Visitor for Nested {
     type Fault = Fault;
 
     fn before(&mut self, core: &Core, event: Event) -> Result<(), Fault> {
+        self.asked.before(self.alloc, core, event)?;
         self.mirror.before(core, event)
     }
 

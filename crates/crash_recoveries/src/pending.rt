@@ -1,7 +1,9 @@
 //! Disks on which the recovery is to be run.
-use crate::point::{Chain, CrashPoint};
+use crate::point::{Chain, CrashPlace, CrashPoint};
 use crate::promise::Promise;
+use crash_outcomes::outcome_of;
 use files::FileList;
+use std::alloc::{AllocError, Global};
 
 /// How much was tried.
 #[derive(Clone, Copy)]
@@ -33,13 +35,27 @@ impl Tally {
 /// A disk that a crash of the run left, and what was promised before.
 #[derive(Drop)]
 pub struct Pending {
-    pub point: CrashPoint,
+    pub place: CrashPlace,
+    pub told: String,
     pub files: FileList,
+    /// What tells the files from others.
+    pub digest: String,
     pub promise: Promise,
     /// How much of the run was tried up to its crash.
     pub before: Tally,
     /// How much was tried of recoveries on it.
     pub tried: Tally,
+}
+
+impl Pending {
+    /// The crash, with the files that it left.
+    pub fn point(&self, alloc: Global) -> Result<CrashPoint, AllocError> {
+        Ok(CrashPoint {
+            place: self.place,
+            outcome: outcome_of(alloc, &self.files)?,
+            told: String::from_str(alloc, self.told.as_str())?,
+        })
+    }
 }
 
 /// A run of the recovery: on which of the disks, and after which crashes of recoveries.

@@ -1,5 +1,8 @@
 //! What a run had promised when a crash came.
 ghost use Rattle.std.specs.Prelude.{◌≡◌, ◌++◌, IfOk};
+ghost use Rattle.kernel_model.specs.Answers.{now};
+ghost use Rattle.kernel_model.specs.Shown.{shown as shown_of, printed as given_to};
+ghost use Rattle.kernel_model.specs.Views.{contents};
 
 use crate::digests::digest_of_bytes;
 use byte_list::Bytes;
@@ -26,12 +29,16 @@ impl Promise {
     }
 
     /// The promise of a run so far: what earlier boots showed, and what is shown.
-    pub fn of(alloc: Global, earlier: &[u8], core: &Core) -> Result<Promise, AllocError> {
+    pub fn of(alloc: Global, earlier: &[u8], core: &Core) -> Result<Promise, AllocError>
+        ensures { IfOk result (λ promise. promise.shown.items ≡ earlier.now ++ shown_of (now core.now) 0) }
+    {
         Promise::new(alloc, earlier, core.shown(0))
     }
 
     /// The promise of a run whose output waits for nothing: what earlier boots showed, and all that was printed.
-    pub fn printed(alloc: Global, earlier: &[u8], core: &Core) -> Result<Promise, AllocError> {
+    pub fn printed(alloc: Global, earlier: &[u8], core: &Core) -> Result<Promise, AllocError>
+        ensures { IfOk result (λ promise. promise.shown.items ≡ earlier.now ++ contents (given_to 0 (now core.now).log)) }
+    {
         Promise::new(alloc, earlier, core.written(0))
     }
 

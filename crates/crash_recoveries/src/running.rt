@@ -1,4 +1,5 @@
 //! Runs the recovery on a disk.
+use crate::asked::Asked;
 use crate::course::{play_some, play_to_end};
 use crate::failure::Failure;
 use crate::nested::{Nested, NestedCrash};
@@ -14,8 +15,8 @@ use std::rt::Files;
 /// What came of a run of the recovery.
 #[derive(Drop)]
 pub struct Ran {
-    /// Whether it ended with another status than 0.
-    pub has_failed: bool,
+    pub status: u8,
+    pub asked: Asked,
     /// How many of its crashes were tried.
     pub crashes: u64,
     /// What they left, each disk once.
@@ -61,12 +62,7 @@ pub fn run_recovery<R: Files + AllocGlobal>(
     let before = chain.len() as u64;
     let mut nested = Nested::new(rt.alloc(), before, before < u64::from(program.nested));
     let ending = play_to_end(&mut nested, &mut core, program.limit)?;
-    let (crashes, left) = nested.into_crashes();
-    Ok(Ran {
-        has_failed: status_of_run(&core, ending) != 0,
-        crashes,
-        left,
-    })
+    Ok(nested.into_ran(status_of_run(&core, ending)))
 }
 
 /// Runs a recovery that fails once more, and gives what there is to tell of it.
@@ -81,7 +77,7 @@ pub fn failure_of<R: Files + AllocGlobal>(
     let mut nested = Nested::new(rt.alloc(), 0, false);
     let ending = play_to_end(&mut nested, &mut core, program.limit)?;
     Ok(Failure {
-        point: disk.point.try_clone(rt.alloc())?,
+        point: disk.point(rt.alloc())?,
         chain,
         setup,
         core,

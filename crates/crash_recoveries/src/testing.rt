@@ -5,14 +5,14 @@ use crate::digests::digest_of_files;
 use crate::effort::Effort;
 use crate::failure::Failure;
 use crate::pending::{Job, Pending, Tally};
-use crate::point::{CrashPlace, CrashPoint};
+use crate::point::CrashPlace;
 use crate::promise::Promise;
 use crate::recovery::RecoveryProgram;
 use crate::running::{Ran, failure_of};
+use crate::sights::{Sight, Sights};
 use crate::stop::Stop;
 use crate::taker::Taker;
 use crate::tried::Tried;
-use crash_outcomes::outcome_of;
 use faults::Fault;
 use files::FileList;
 use progress::{Progress, ProgressCount};
@@ -28,7 +28,7 @@ const MOST_TOGETHER: usize = 256;
 /// How many recoveries each thread runs before it is told how far it has come.
 const TAKEN: usize = 16;
 
-/// What runs the recovery on disks, on each once with each promise.
+/// What runs the recovery on disks, on each once with each promise. Of those that it cannot tell apart it is run on the first.
 #[derive(Drop)]
 pub struct Tester<'a, R, E> {
     rt: &'a R,
@@ -36,14 +36,20 @@ pub struct Tester<'a, R, E> {
     effort: Effort,
     progress: Progress<'a, E>,
     tried: Tried,
+    sights: Sights,
     disks: HashSet<String>,
+    /// What was found since the last time that it was settled, in its order.
+    taken: Vec<Pending>,
     pending: Vec<Pending>,
     seen: Vec<Seen>,
     /// How many disks are to be pending before the recovery is run on them.
     together: usize,
-    /// How many disks with promises were found.
-    found: u64,
-    tally: Tally,
+    /// The disks that were found, each with its promise.
+    found: HashSet<String>,
+    /// How much of the run was tried.
+    run: Tally,
+    /// How much was tried of recoveries.
+    recovered: Tally,
     /// The first recovery that failed, if one did.
     pub failure: Option<Failure>,
 }
@@ -63,12 +69,15 @@ impl<'a, R: Files + AllocGlobal, E: Write> Tester<'a, R, E> {
             effort,
             progress,
             tried: Tried::new(alloc),
+            sights: Sights::new(alloc),
             disks: HashSet::new(alloc),
+            taken: Vec::new(alloc),
             pending: Vec::new(alloc),
             seen: Vec::new(alloc),
             together: 1,
-            found: 0,
-            tally: Tally::NONE,
+            found: HashSet::new(alloc),
+            run: Tally::NONE,
+            recovered: Tally::NONE,
             failure: None,
         }
     }
@@ -81,63 +90,82 @@ impl<'a, R: Files + AllocGlobal, E: Write> Tester<'a, R, E> {
 
     /// How much was tried.
     pub fn tally(&self) -> Tally {
-        self.tally
+        self.run.with(self.recovered)
     }
 
     /// How many disks with promises were found.
     pub fn found(&self) -> u64 {
-        self.found
+        self.found.len() as u64
     }
 
-    /// How many disks were tried.
+    /// How many disks were tried, or cannot be told from one that was.
     pub fn count_disks(&self) -> usize {
         self.disks.len()
     }
 
-    /// Whether a disk was not tried with a promise yet.
+    /// Whether a disk was not found with a promise yet.
     fn is_new(&mut self, disk: &str, promise: &Promise) -> Result<bool, AllocError> {
-        let nested = self.program.nested;
-        self.tried
-            .add(self.rt.alloc(), disk, promise.digest.as_str(), nested)
+        let promise = promise.digest.as_str();
+        let pair = format!(in self.rt.alloc(); "{disk} {promise}")?;
+        Ok(self.found.insert(pair)?)
     }
 
-    /// Counts a disk with its promise that is new. Whether it is in the part that is tried.
+    /// Whether the disk that was found last is in the part that is tried.
     fn is_taken(&mut self) -> bool {
-        let number = self.found;
-        self.found = number.saturating_add(1);
-        let is_taken = self.effort.takes(number);
+        let is_taken = self.effort.takes(self.found().saturating_sub(1));
         if !is_taken {
-            self.tally.others = self.tally.others.saturating_add(1);
+            self.run.others = self.run.others.saturating_add(1);
         }
         is_taken
     }
 
-    /// Adds a disk on which the recovery is to be run.
-    fn push(
-        &mut self,
-        files: &FileList,
-        promise: &Promise,
-        point: CrashPoint,
-        digest: String,
-    ) -> Result<(), AllocError> {
+    /// What is known of a disk. Where it may be the same as one that is pending, the recovery is run first on what is.
+    fn look<T: Threads + Sync>(&mut self, rt: &T, disk: &Pending) -> Result<Sight, Stop> {
+        let alloc = self.rt.alloc();
+        let sight = self.sights.look(alloc, disk)?;
+        if sight != Sight::Awaited {
+            return Ok(sight);
+        }
+        self.run_batch(rt)?;
+        Ok(self.sights.look(alloc, disk)?)
+    }
+
+    /// Adds a disk to those on which the recovery is to be run.
+    fn push(&mut self, disk: Pending) -> Result<(), AllocError> {
+        let (digest, promise) = (disk.digest.as_str(), disk.promise.digest.as_str());
+        let nested = self.program.nested;
+        self.tried.add(self.rt.alloc(), digest, promise, nested)?;
+        self.pending.push(disk)?;
+        Ok(())
+    }
+
+    /// Adds a disk to those on which the recovery is to be run, unless it cannot be told from one on which it was.
+    fn sort_in<T: Threads + Sync>(&mut self, rt: &T, disk: Pending) -> Result<(), Stop> {
+        let sight = self.look(rt, &disk)?;
         self.seen.push(Seen {
-            digest,
+            digest: String::from_str(self.rt.alloc(), disk.digest.as_str())?,
             disk: self.pending.len(),
         })?;
-        self.pending.push(Pending {
-            point,
-            files: files.try_clone()?,
-            promise: promise.try_clone(self.rt.alloc())?,
-            before: self.tally,
-            tried: Tally::NONE,
-        })?;
+        if sight == Sight::New {
+            self.push(disk)?;
+        }
+        Ok(())
+    }
+
+    /// Sorts in what was found since the last time.
+    fn sort_in_all<T: Threads + Sync>(&mut self, rt: &T) -> Result<(), Stop> {
+        let mut taken = Vec::new(self.rt.alloc());
+        taken.append(&mut self.taken)?;
+        for disk in taken {
+            self.sort_in(rt, disk)?;
+        }
         Ok(())
     }
 
     /// Tells how far it has come, if that is due.
     fn tell(&mut self, batch: &Batch, ran: usize) {
         if self.progress.is_due(self.rt) {
-            let mut done = self.tally.recoveries.saturating_add(ran as u64);
+            let mut done = self.recovered.recoveries.saturating_add(ran as u64);
             for disk in &batch.disks {
                 done = done.saturating_add(disk.tried.recoveries);
             }
@@ -171,10 +199,10 @@ impl<'a, R: Files + AllocGlobal, E: Write> Tester<'a, R, E> {
     /// Adds up what was tried of disks up to this one.
     fn add_tried(&mut self, disks: &[Pending], last: usize) {
         if let Some(disk) = disks.get(last) {
-            self.tally = disk.before;
+            self.run = disk.before;
         }
         for disk in disks.iter().take(last.saturating_add(1)) {
-            self.tally = self.tally.with(disk.tried);
+            self.recovered = self.recovered.with(disk.tried);
         }
     }
 
@@ -225,6 +253,8 @@ impl<'a, R: Files + AllocGlobal, E: Write> Tester<'a, R, E> {
             self.run_round(rt, &mut batch)?;
         }
         self.together = self.together.saturating_mul(2).min(MOST_TOGETHER);
+        self.sights
+            .learn(self.rt.alloc(), batch.disks.as_slice(), &batch.asked)?;
         self.sum_up(&mut batch)?;
         self.judge(batch)
     }
@@ -248,6 +278,7 @@ impl<'a, R: Files + AllocGlobal, E: Write> Tester<'a, R, E> {
         done: Result<D, Stop>,
     ) -> Result<D, Stop> {
         if !matches!(done, Err(Stop::Fault(_) | Stop::Failed)) {
+            self.sort_in_all(rt)?;
             self.run_batch(rt)?;
         }
         done
@@ -273,19 +304,24 @@ impl<R: Files + AllocGlobal, E: Write> Taker for Tester<'_, R, E> {
         if !self.is_new(digest.as_str(), promise)? || !self.is_taken() {
             return Ok(());
         }
-        let point = CrashPoint {
+        self.taken.push(Pending {
             place,
-            outcome: outcome_of(alloc, files)?,
             told: String::from_str(alloc, told)?,
-        };
-        Ok(self.push(files, promise, point, digest)?)
+            files: files.try_clone()?,
+            digest,
+            promise: promise.try_clone(alloc)?,
+            before: self.run,
+            tried: Tally::NONE,
+        })?;
+        Ok(())
     }
 
     fn again(&mut self, times: u64) {
-        self.tally.crashes = self.tally.crashes.saturating_add(times);
+        self.run.crashes = self.run.crashes.saturating_add(times);
     }
 
     fn settle<T: Threads + Sync>(&mut self, rt: &T) -> Result<(), Stop> {
+        self.sort_in_all(rt)?;
         if self.pending.len() < self.together {
             return Ok(());
         }

@@ -231,8 +231,8 @@ impl<R: Files + AllocGlobal + Threads + Sync> WindowTrier<'_, R> {
         let near = lists.near(self.rt.alloc(), common, apart)?;
         for listed in near.lists.iter().filter(|listed| listed.apart == apart) {
             self.hand_out(closed, listed, taker)?;
+            taker.settle(self.rt)?;
         }
-        taker.settle(self.rt)?;
         Ok(near.is_cut)
     }
 
