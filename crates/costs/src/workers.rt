@@ -7,7 +7,6 @@ ghost use Rattle.kernel_model.specs.World.{terminal_count};
 use crate::ratios::thousandths;
 use anyhow::{Error, bail};
 use assembler::assemble;
-use byte_list::Bytes;
 use executor::{Run, Settings};
 use formats::Reg;
 use kernel::{Core, Program, SimDisk};
@@ -123,12 +122,7 @@ const ENOUGH: u64 = 1 << 39;
 
 /// Runs a machine to the end of its program, with 1 as the reply to each of its calls but the last.
 fn run_alone(alloc: Global, machine: &mut Machine) {
-    let reply = Reply {
-        a0: 1,
-        at: 0,
-        bytes: Bytes::empty(alloc),
-        image: None,
-    };
+    let reply = Reply::number(1);
     for _ in 0..u32::MAX {
         if machine.count() >= ENOUGH {
             return;
