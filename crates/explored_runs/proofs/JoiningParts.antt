@@ -4,7 +4,7 @@ use Rattle.kernel_model.specs.World.{Boot}
 use Rattle.order_laws.specs.Moves.{Seen, calls}
 use Rattle.order_laws.specs.Privacy.{IsPrivate}
 use Rattle.order_laws.specs.Searches.{HasState, WentOn as WentOnAll}
-use Rattle.state_search.specs.Searches.{HasKey, IsPart, WentOn}
+use Rattle.state_search.specs.Searches.{HasKey, HasPart, IsPart, WentOn}
 use Rattle.state_search.specs.declared.key.Key.{Key}
 use Rattle.state_search.specs.declared.moves.Found.{Found}
 use Rattle.state_search.specs.declared.moves.Reached.{Reached}
@@ -43,5 +43,7 @@ module _ {S : Type 0} (begins : Reached S → Type 0) (expands : List (Found S) 
       goes_on = λ f is. went_on f (searched.found.goes_on f is);
     }
 
-  pub finds_its_part : FindsItsPart begins expands gone left others depth
-  finds_its_part = record { searched = searched; finds = goes_on }
+-- so it goes on, of which it says how many states it went on from
+pub finds_its_part : {S : Type 0} (begins : Reached S → Type 0) (expands : List (Found S) → List (Reached S) → Type 0) (many : ℕ) (left others : List (Found S)) (depth : ℕ)
+    → HasPart begins expands many left others depth → FindsItsPart begins expands many left others depth
+finds_its_part begins expands many left others depth has = record { searched = has; finds = goes_on begins expands has.gone_on left others depth has.part }

@@ -3,7 +3,7 @@ use Rattle.std.specs.Prelude.{◌≡◌, ℕ, List, [], ◌++◌}
 use Rattle.std.specs.Global.{Vec}
 use Rattle.disk_model.specs.declared.change.NamedFile.{NamedFile}
 use Rattle.order_laws.specs.Moves.{Seen}
-use Rattle.state_search.specs.Searches.{IsPart, IsSearched}
+use Rattle.state_search.specs.Searches.{HasPart, HasSearched}
 use Rattle.state_search.specs.declared.moves.Found.{Found}
 use Rattle.state_search.specs.declared.moves.Reached.{Reached}
 use Rattle.explored_runs.specs.Answering.{Expands, StandOn, boot_in}
@@ -20,14 +20,14 @@ abbrev pub IsFirstRun : Reached (Vec ℕ) → Type 0
 IsFirstRun first = first.state.items ≡ []
 
 -- A search of runs: if its keys told the states of the runs apart, it found all of the boot of its programs.
-pub record FindsRuns (r : Runs) (gone_on left : List (Found (Vec ℕ))) (depth : ℕ) : Type 0 where
-  pub searched : IsSearched IsFirstRun (Expands r) gone_on left depth
-  pub finds : (files : List NamedFile) → StandOn r files → KeysTell (seen_in_runs r files) searched.first searched.answers (gone_on ++ left)
-      → FindsAll r.instructions (boot_in r files) (seen_in_runs r files) gone_on left depth
+pub record FindsRuns (r : Runs) (many : ℕ) (left : List (Found (Vec ℕ))) (depth : ℕ) : Type 0 where
+  pub searched : HasSearched IsFirstRun (Expands r) many left depth
+  pub finds : (files : List NamedFile) → StandOn r files → KeysTell (seen_in_runs r files) searched.part.first searched.part.answers (searched.gone_on ++ left)
+      → FindsAll r.instructions (boot_in r files) (seen_in_runs r files) searched.gone_on left depth
 
 -- A part of a search of runs: let keys tell the states of all parts apart, and let what the part found be among them. Then it goes on to states of all
 -- parts.
-pub record FindsPartOfRuns (r : Runs) (gone_on left others : List (Found (Vec ℕ))) (depth : ℕ) : Type 0 where
-  pub searched : IsPart IsFirstRun (Expands r) gone_on left others depth
-  pub finds : (files : List NamedFile) → StandOn r files → (all : List (Found (Vec ℕ))) → KeysTell (seen_in_runs r files) searched.first searched.answers all
-      → AreFound (others ++ (gone_on ++ left)) all → GoesOn r.instructions (boot_in r files) (seen_in_runs r files) gone_on all
+pub record FindsPartOfRuns (r : Runs) (many : ℕ) (left others : List (Found (Vec ℕ))) (depth : ℕ) : Type 0 where
+  pub searched : HasPart IsFirstRun (Expands r) many left others depth
+  pub finds : (files : List NamedFile) → StandOn r files → (all : List (Found (Vec ℕ))) → KeysTell (seen_in_runs r files) searched.part.first searched.part.answers all
+      → AreFound (others ++ (searched.gone_on ++ left)) all → GoesOn r.instructions (boot_in r files) (seen_in_runs r files) searched.gone_on all

@@ -131,9 +131,9 @@ pub fn search_runs<R: Threads + Sync, L: Listener>(
     listener: &mut L,
     bounds: Bounds,
 ) -> Result<Searched<Vec<u32>>, L::Fault>
-    ensures finds { IfOk result (λ found. FindsRuns runs.now found.gone_on.items found.left.items found.depth) }
-    ensures cut { IfOk result (λ found. IsCut found.gone_on.items found.left.items found.depth bounds) }
-    ensures within { IfOk result (λ found. IsWithin found.gone_on.items found.depth bounds) }
+    ensures finds { IfOk result (λ found. FindsRuns runs.now found.gone_on found.left.items found.depth) }
+    ensures cut { IfOk result (λ found. IsCut found.gone_on found.left.items found.depth bounds) }
+    ensures within { IfOk result (λ found. IsWithin found.gone_on found.depth bounds) }
 {
     let mut search = RunSearch {
         runs,
@@ -156,9 +156,9 @@ pub fn search_runs_part<R: Threads + Sync, L: Listener>(
     bounds: Bounds,
     part: Part,
 ) -> Result<PartSearched<Vec<u32>>, L::Fault>
-    ensures finds { IfOk result (λ found. FindsPartOfRuns runs.now found.searched.gone_on.items found.searched.left.items found.others.items found.searched.depth) }
-    ensures cut { IfOk result (λ found. IsCut found.searched.gone_on.items found.searched.left.items found.searched.depth bounds) }
-    ensures within { IfOk result (λ found. IsWithin found.searched.gone_on.items found.searched.depth bounds) }
+    ensures finds { IfOk result (λ found. FindsPartOfRuns runs.now found.searched.gone_on found.searched.left.items found.others.items found.searched.depth) }
+    ensures cut { IfOk result (λ found. IsCut found.searched.gone_on found.searched.left.items found.searched.depth bounds) }
+    ensures within { IfOk result (λ found. IsWithin found.searched.gone_on found.searched.depth bounds) }
 {
     let mut search = RunSearch {
         runs,

@@ -23,7 +23,7 @@ impl Totals {
     {
         let left = searched.left.len() as u64;
         Totals {
-            states: (searched.gone_on.len() as u64).saturating_add(left),
+            states: searched.gone_on.saturating_add(left),
             calls: searched.moves,
             left,
             depth: searched.depth,

@@ -1,5 +1,5 @@
 -- How a search begins, goes on by a level, and leaves states to other parts.
-use Rattle.std.proofs.Common.{arith, ◌≡◌, ◌⊎◌, ◌∙◌, ◌++◌, ◌∷◌, [], ◌+◌, ◌<◌, ◌≤◌, ℕ, List, length, false, sym, ap, subst, inl, inr}
+use Rattle.std.proofs.Common.{arith, ◌≡◌, ◌⊎◌, ◌∙◌, ◌++◌, ◌∷◌, [], ◌+◌, ◌<◌, ◌≤◌, ℕ, List, length, false, refl, sym, ap, subst, inl, inr}
 use Rattle.std.specs.List.{Contains}
 use Rattle.std.specs.HashSet.{HashSet}
 use Rattle.std.proofs.lemmas.List.{length-append}
@@ -7,7 +7,7 @@ use Rattle.std.proofs.lemmas.List.Elements.{Contains-append_left, Contains-appen
 use Rattle.state_search.specs.Adding.{AreAdded, one_if}
 use Rattle.state_search.specs.Going.{AreLeft, IsGoing, IsParted}
 use Rattle.state_search.specs.Keys.{has}
-use Rattle.state_search.specs.Searches.{Answer, Came, ComesOf, HasKey, IsFirst, WentOn, times}
+use Rattle.state_search.specs.Searches.{Answer, Came, ComesOf, HasKey, IsFirst, IsPart, WentOn, times}
 use Rattle.state_search.specs.declared.key.Key.{Key}
 use Rattle.state_search.specs.declared.moves.Found.{Found}
 use Rattle.state_search.specs.declared.moves.Reached.{Reached}
@@ -47,24 +47,28 @@ module _ {S Z : Type 0} (begins : Reached S → Type 0) (expands : List (Found S
       }
 
   -- the first state alone
-  pub begins-with : IsGoing begins expands known [] left [] 0
+  pub begins-with : IsGoing begins expands known 0 left [] 0
   begins-with = record {
     searched = record {
-      first = r;
-      is_first = is_first;
-      answers = [];
-      are_answers = λ a is. absurd (none-in a is);
-      found = record {
-        begins = first-found;
-        levels = λ a is. absurd (none-in a is);
-        each = λ a is. absurd (none-in a is);
-        goes_on = λ f is. absurd (none-in f is);
-        nearer = λ f is. absurd (none-in f is);
-        farthest = adds.near;
-        passed = λ f is. absurd (none-in f is);
-        comes = λ f is. inl (first-only f is);
+      gone_on = [];
+      are_many = refl;
+      part = record {
+        first = r;
+        is_first = is_first;
+        answers = [];
+        are_answers = λ a is. absurd (none-in a is);
+        found = record {
+          begins = first-found;
+          levels = λ a is. absurd (none-in a is);
+          each = λ a is. absurd (none-in a is);
+          goes_on = λ f is. absurd (none-in f is);
+          nearer = λ f is. absurd (none-in f is);
+          farthest = adds.near;
+          passed = λ f is. absurd (none-in f is);
+          comes = λ f is. inl (first-only f is);
+        };
+        once = λ k. at-most-once (times k left) (has known k) (knows-first k);
       };
-      once = λ k. at-most-once (times k left) (has known k) (knows-first k);
     };
     knows = knows-first;
   }
@@ -94,8 +98,11 @@ module _ {S : Type 0} (others xs ys : List (Found S)) where
   still-found k most h = record { one = h.one; is_found = still-there h.one h.is_found; same_key = h.same_key; near = h.near }
 
 module _ {S Z : Type 0} (begins : Reached S → Type 0) (expands : List (Found S) → List (Reached S) → Type 0) (old new : HashSet Key Z)
-    (gone left others added : List (Found S)) (next : List (Reached S)) (depth : ℕ)
-    (going : IsGoing begins expands old gone left others depth) (expanded : expands left next) (adds : AreAdded old new next added (depth + 1)) where
+    (many : ℕ) (left others added : List (Found S)) (next : List (Reached S)) (depth : ℕ)
+    (going : IsGoing begins expands old many left others depth) (expanded : expands left next) (adds : AreAdded old new next added (depth + 1)) where
+  abbrev gone : List (Found S)
+  gone = going.searched.gone_on
+
   abbrev before : List (Found S)
   before = gone ++ left
 
@@ -111,21 +118,24 @@ module _ {S Z : Type 0} (begins : Reached S → Type 0) (expands : List (Found S
       let more = times-append k before added in
       omega (arith, counts, knew, then-all, now-all, more)
 
-  abbrev was : ComesOf going.searched.first going.searched.answers gone left others depth
-  was = going.searched.found
+  abbrev past : List (Answer S)
+  past = going.searched.part.answers
+
+  abbrev was : ComesOf going.searched.part.first past gone left others depth
+  was = going.searched.part.found
 
   abbrev now : Answer S
   now = record { level = left; next = next }
 
   abbrev answers : List (Answer S)
-  answers = going.searched.answers ++ now ∷ []
+  answers = past ++ now ∷ []
 
   -- an answer is an earlier one or this one
-  by-answer : (Q : Answer S → Type 0) → ((a : Answer S) → Contains going.searched.answers a → Q a) → Q now → (a : Answer S) → Contains answers a → Q a
-  by-answer Q earlier here a is = by-cases (Contains-push_cases going.searched.answers now a is)
+  by-answer : (Q : Answer S → Type 0) → ((a : Answer S) → Contains past a → Q a) → Q now → (a : Answer S) → Contains answers a → Q a
+  by-answer Q earlier here a is = by-cases (Contains-push_cases past now a is)
     where
-      by-cases : Contains going.searched.answers a ⊎ (now ≡ a) → Q a
-      by-cases (inl past) = earlier a past
+      by-cases : Contains past a ⊎ (now ≡ a) → Q a
+      by-cases (inl before) = earlier a before
       by-cases (inr same) = subst Q same here
 
   -- a state that was found before is one of those from which it went on, or of those that it left
@@ -161,89 +171,99 @@ module _ {S Z : Type 0} (begins : Reached S → Type 0) (expands : List (Found S
 
   still-went : (f : Found S) → Contains gone f → WentOn answers f
   still-went f is = let went = was.goes_on f is in
-      record { answer = went.answer; is_answer = Contains-append_left going.searched.answers (now ∷ []) went.answer went.is_answer; is_in = went.is_in }
+      record { answer = went.answer; is_answer = Contains-append_left past (now ∷ []) went.answer went.is_answer; is_in = went.is_in }
 
   came-added : (f : Found S) → Contains added f → Came answers f
   came-added f is = record {
     answer = now;
-    is_answer = Contains-push going.searched.answers now;
+    is_answer = Contains-push past now;
     reached = adds.sound f is;
     farther = λ g among. let at = was.farthest g among in let here = adds.near f is in omega (arith, at, here);
   }
 
-  still-came : (f : Found S) → IsFirst going.searched.first f ⊎ Came going.searched.answers f → IsFirst going.searched.first f ⊎ Came answers f
+  still-came : (f : Found S) → IsFirst going.searched.part.first f ⊎ Came past f → IsFirst going.searched.part.first f ⊎ Came answers f
   still-came f (inl is_first) = inl is_first
   still-came f (inr came) = inr (record {
     answer = came.answer;
-    is_answer = Contains-append_left going.searched.answers (now ∷ []) came.answer came.is_answer;
+    is_answer = Contains-append_left past (now ∷ []) came.answer came.is_answer;
     reached = came.reached;
     farther = came.farther;
   })
 
-  comes-now : (f : Found S) → Contains all f → IsFirst going.searched.first f ⊎ Came answers f
+  comes-now : (f : Found S) → Contains all f → IsFirst going.searched.part.first f ⊎ Came answers f
   comes-now f is = by-cases (was-or-now others before added f is)
     where
-      by-cases : Contains (others ++ before) f ⊎ Contains added f → IsFirst going.searched.first f ⊎ Came answers f
+      by-cases : Contains (others ++ before) f ⊎ Contains added f → IsFirst going.searched.part.first f ⊎ Came answers f
       by-cases (inl earlier) = still-came f (was.comes f earlier)
       by-cases (inr late) = inr (came-added f late)
 
   -- by one level more
-  pub goes-on : IsGoing begins expands new before added others (depth + 1)
+  pub goes-on : IsGoing begins expands new (many + length left) added others (depth + 1)
   goes-on = record {
     searched = record {
-      first = going.searched.first;
-      is_first = going.searched.is_first;
-      answers = answers;
-      are_answers = by-answer (λ a. expands a.level a.next) going.searched.are_answers expanded;
-      found = record {
-        begins = still-found others before added going.searched.first.key 0 was.begins;
-        levels = by-answer (λ a. (f : Found S) → Contains a.level f → Contains (gone ++ left) f)
-            (λ a is f among. Contains-append_left gone left f (was.levels a is f among)) (λ f among. Contains-append_right gone left f among);
-        each = by-answer (λ a. (f : Found S) → Contains a.level f → (r : Reached S) → Contains a.next r → HasKey all r.key (f.moves + 1))
-            (λ a is f among r reached. still-found others before added r.key (f.moves + 1) (was.each a is f among r reached)) each-now;
-        goes_on = by-state (λ f. WentOn answers f) still-went (λ f is. record { answer = now; is_answer = Contains-push going.searched.answers now; is_in = is });
-        nearer = nearer-now;
-        farthest = adds.near;
-        passed = passed-now;
-        comes = comes-now;
+      gone_on = before;
+      are_many = let all = length-append gone left in let was_many = going.searched.are_many in omega (arith, all, was_many);
+      part = record {
+        first = going.searched.part.first;
+        is_first = going.searched.part.is_first;
+        answers = answers;
+        are_answers = by-answer (λ a. expands a.level a.next) going.searched.part.are_answers expanded;
+        found = record {
+          begins = still-found others before added going.searched.part.first.key 0 was.begins;
+          levels = by-answer (λ a. (f : Found S) → Contains a.level f → Contains (gone ++ left) f)
+              (λ a is f among. Contains-append_left gone left f (was.levels a is f among)) (λ f among. Contains-append_right gone left f among);
+          each = by-answer (λ a. (f : Found S) → Contains a.level f → (r : Reached S) → Contains a.next r → HasKey all r.key (f.moves + 1))
+              (λ a is f among r reached. still-found others before added r.key (f.moves + 1) (was.each a is f among r reached)) each-now;
+          goes_on = by-state (λ f. WentOn answers f) still-went (λ f is. record { answer = now; is_answer = Contains-push past now; is_in = is });
+          nearer = nearer-now;
+          farthest = adds.near;
+          passed = passed-now;
+          comes = comes-now;
+        };
+        once = λ k. at-most-once (times k all) (has new k) (knows-now k);
       };
-      once = λ k. at-most-once (times k all) (has new k) (knows-now k);
     };
     knows = knows-now;
   }
 
 module _ {S Z : Type 0} (begins : Reached S → Type 0) (expands : List (Found S) → List (Reached S) → Type 0) (known : HashSet Key Z)
-    (gone left others own more : List (Found S)) (depth : ℕ) (going : IsGoing begins expands known gone left others depth) (parted : IsParted left own more) where
+    (many : ℕ) (left others own more : List (Found S)) (depth : ℕ) (going : IsGoing begins expands known many left others depth) (parted : IsParted left own more) where
+  abbrev gone-yet : List (Found S)
+  gone-yet = going.searched.gone_on
+
+  abbrev so-far : IsPart begins expands gone-yet left others depth
+  so-far = going.searched.part
+
   abbrev found : List (Found S)
-  found = others ++ (gone ++ left)
+  found = others ++ (gone-yet ++ left)
 
   abbrev shared : List (Found S)
-  shared = (others ++ more) ++ (gone ++ own)
+  shared = (others ++ more) ++ (gone-yet ++ own)
 
   -- the same states are found
   to-shared : (f : Found S) → Contains found f → Contains shared f
-  to-shared f is = elim (Contains-append_cases others (gone ++ left) f is) as (λ _. Contains shared f) [
-    | inl other ↦ Contains-append_left (others ++ more) (gone ++ own) f (Contains-append_left others more f other)
-    | inr here ↦ elim (Contains-append_cases gone left f here) as (λ _. Contains shared f) [
-      | inl before ↦ Contains-append_right (others ++ more) (gone ++ own) f (Contains-append_left gone own f before)
+  to-shared f is = elim (Contains-append_cases others (gone-yet ++ left) f is) as (λ _. Contains shared f) [
+    | inl other ↦ Contains-append_left (others ++ more) (gone-yet ++ own) f (Contains-append_left others more f other)
+    | inr here ↦ elim (Contains-append_cases gone-yet left f here) as (λ _. Contains shared f) [
+      | inl before ↦ Contains-append_right (others ++ more) (gone-yet ++ own) f (Contains-append_left gone-yet own f before)
       | inr last ↦ elim (parted.each f last) as (λ _. Contains shared f) [
-        | inl mine ↦ Contains-append_right (others ++ more) (gone ++ own) f (Contains-append_right gone own f mine)
-        | inr theirs ↦ Contains-append_left (others ++ more) (gone ++ own) f (Contains-append_right others more f theirs)
+        | inl mine ↦ Contains-append_right (others ++ more) (gone-yet ++ own) f (Contains-append_right gone-yet own f mine)
+        | inr theirs ↦ Contains-append_left (others ++ more) (gone-yet ++ own) f (Contains-append_right others more f theirs)
       ]
     ]
   ]
 
   of-left : (f : Found S) → Contains left f → Contains found f
-  of-left f is = Contains-append_right others (gone ++ left) f (Contains-append_right gone left f is)
+  of-left f is = Contains-append_right others (gone-yet ++ left) f (Contains-append_right gone-yet left f is)
 
   from-shared : (f : Found S) → Contains shared f → Contains found f
-  from-shared f is = elim (Contains-append_cases (others ++ more) (gone ++ own) f is) as (λ _. Contains found f) [
+  from-shared f is = elim (Contains-append_cases (others ++ more) (gone-yet ++ own) f is) as (λ _. Contains found f) [
     | inl passed ↦ elim (Contains-append_cases others more f passed) as (λ _. Contains found f) [
-      | inl other ↦ Contains-append_left others (gone ++ left) f other
+      | inl other ↦ Contains-append_left others (gone-yet ++ left) f other
       | inr theirs ↦ of-left f (parted.others f theirs)
     ]
-    | inr here ↦ elim (Contains-append_cases gone own f here) as (λ _. Contains found f) [
-      | inl before ↦ Contains-append_right others (gone ++ left) f (Contains-append_left gone left f before)
+    | inr here ↦ elim (Contains-append_cases gone-yet own f here) as (λ _. Contains found f) [
+      | inl before ↦ Contains-append_right others (gone-yet ++ left) f (Contains-append_left gone-yet left f before)
       | inr mine ↦ of-left f (parted.own f mine)
     ]
   ]
@@ -255,56 +275,59 @@ module _ {S Z : Type 0} (begins : Reached S → Type 0) (expands : List (Found S
   knows-shared k =
       let knew = going.knows k in
       let counts = parted.counts k in
-      let all = times-append k others (gone ++ left) in
-      let here = times-append k gone left in
-      let now-all = times-append k (others ++ more) (gone ++ own) in
+      let all = times-append k others (gone-yet ++ left) in
+      let here = times-append k gone-yet left in
+      let now-all = times-append k (others ++ more) (gone-yet ++ own) in
       let passed = times-append k others more in
-      let kept = times-append k gone own in
+      let kept = times-append k gone-yet own in
       omega (arith, knew, counts, all, here, now-all, passed, kept)
 
   passed-shared : (f : Found S) → Contains (others ++ more) f → f.moves ≤ depth
   passed-shared f is = elim (Contains-append_cases others more f is) as (λ _. f.moves ≤ depth) [
-    | inl other ↦ going.searched.found.passed f other
-    | inr theirs ↦ let at = going.searched.found.farthest f (parted.others f theirs) in omega (arith, at)
+    | inl other ↦ so-far.found.passed f other
+    | inr theirs ↦ let at = so-far.found.farthest f (parted.others f theirs) in omega (arith, at)
   ]
 
   -- a part leaves those of the last level that are not its own
-  leaves-others : IsGoing begins expands known gone own (others ++ more) depth
+  leaves-others : IsGoing begins expands known many own (others ++ more) depth
   leaves-others = record {
     searched = record {
-      first = going.searched.first;
-      is_first = going.searched.is_first;
-      answers = going.searched.answers;
-      are_answers = going.searched.are_answers;
-      found = record {
-        begins = in-shared going.searched.first.key 0 going.searched.found.begins;
-        levels = going.searched.found.levels;
-        each = λ a is f among r reached. in-shared r.key (f.moves + 1) (going.searched.found.each a is f among r reached);
-        goes_on = going.searched.found.goes_on;
-        nearer = going.searched.found.nearer;
-        farthest = λ f is. going.searched.found.farthest f (parted.own f is);
-        passed = passed-shared;
-        comes = λ f is. going.searched.found.comes f (from-shared f is);
+      gone_on = gone-yet;
+      are_many = going.searched.are_many;
+      part = record {
+        first = so-far.first;
+        is_first = so-far.is_first;
+        answers = so-far.answers;
+        are_answers = so-far.are_answers;
+        found = record {
+          begins = in-shared so-far.first.key 0 so-far.found.begins;
+          levels = so-far.found.levels;
+          each = λ a is f among r reached. in-shared r.key (f.moves + 1) (so-far.found.each a is f among r reached);
+          goes_on = so-far.found.goes_on;
+          nearer = so-far.found.nearer;
+          farthest = λ f is. so-far.found.farthest f (parted.own f is);
+          passed = passed-shared;
+          comes = λ f is. so-far.found.comes f (from-shared f is);
+        };
+        once = λ k. at-most-once (times k shared) (has known k) (knows-shared k);
       };
-      once = λ k. at-most-once (times k shared) (has known k) (knows-shared k);
     };
     knows = knows-shared;
   }
 
 module _ {S Z : Type 0} (begins : Reached S → Type 0) (expands : List (Found S) → List (Reached S) → Type 0) (known known_now : HashSet Key Z)
-    (gone left others gone_now own others_now : List (Found S)) (depth : ℕ) where
+    (many : ℕ) (left others : List (Found S)) (many_now : ℕ) (own others_now : List (Found S)) (depth : ℕ) where
   -- so it goes on where states were left
-  pub goes-on-left : IsGoing begins expands known gone left others depth → AreLeft known known_now gone left others gone_now own others_now
-      → IsGoing begins expands known_now gone_now own others_now depth
+  pub goes-on-left : IsGoing begins expands known many left others depth → AreLeft known known_now many left others many_now own others_now
+      → IsGoing begins expands known_now many_now own others_now depth
   goes-on-left going are =
-      let all = leaves-others begins expands known gone left others own are.more depth going are.parted in
+      let all = leaves-others begins expands known many left others own are.more depth going are.parted in
       rw (are.known, are.gone, are.others_are) all
 
 -- a part goes on from no more states than there may be
-pub within-left : {S Z : Type 0} (old new : HashSet Key Z) (gone left others gone_now own others_now gone_then : List (Found S)) (most : ℕ)
-    → AreLeft old new gone left others gone_now own others_now → gone_then ≡ gone_now ++ own → length gone + length left ≤ most → length gone_then ≤ most
-within-left old new gone left others gone_now own others_now gone_then most are joined few =
-    let all = ap length joined ∙ length-append gone_now own in
-    let same = ap length are.gone in
+pub within-left : {S Z : Type 0} (old new : HashSet Key Z) (many : ℕ) (left others : List (Found S)) (many_now : ℕ) (own others_now : List (Found S)) (most : ℕ)
+    → AreLeft old new many left others many_now own others_now → many + length left ≤ most → many_now + length own ≤ most
+within-left old new many left others many_now own others_now most are few =
+    let same = are.gone in
     let size = are.parted.size in
-    omega (arith, all, same, size, few)
+    omega (arith, same, size, few)

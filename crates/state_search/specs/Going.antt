@@ -4,15 +4,15 @@ use Rattle.std.specs.List.{Contains}
 use Rattle.std.specs.HashSet.{HashSet}
 use Rattle.state_search.specs.Adding.{one_if}
 use Rattle.state_search.specs.Keys.{has}
-use Rattle.state_search.specs.Searches.{IsPart, times}
+use Rattle.state_search.specs.Searches.{HasPart, times}
 use Rattle.state_search.specs.declared.key.Key.{Key}
 use Rattle.state_search.specs.declared.moves.Found.{Found}
 use Rattle.state_search.specs.declared.moves.Reached.{Reached}
 
 -- it is a search up to this depth, and the keys that are known are those of the states that it found, each once
-pub record IsGoing {S Z : Type 0} (begins : Reached S → Type 0) (expands : List (Found S) → List (Reached S) → Type 0) (known : HashSet Key Z) (gone_on left others : List (Found S)) (depth : ℕ) : Type 0 where
-  pub searched : IsPart begins expands gone_on left others depth
-  pub knows : (k : Key) → times k (others ++ (gone_on ++ left)) ≡ one_if (has known k)
+pub record IsGoing {S Z : Type 0} (begins : Reached S → Type 0) (expands : List (Found S) → List (Reached S) → Type 0) (known : HashSet Key Z) (many : ℕ) (left others : List (Found S)) (depth : ℕ) : Type 0 where
+  pub searched : HasPart begins expands many left others depth
+  pub knows : (k : Key) → times k (others ++ (searched.gone_on ++ left)) ≡ one_if (has known k)
 
 -- states are parted: each is one's own or another's, but not both, and no other is either
 pub record IsParted {S : Type 0} (all mine theirs : List (Found S)) : Type 0 where
@@ -23,7 +23,7 @@ pub record IsParted {S : Type 0} (all mine theirs : List (Found S)) : Type 0 whe
   pub size : length all ≡ length mine + length theirs
 
 -- the states of the last level are left to others, but for some; nothing else of the search is changed
-pub record AreLeft {S Z : Type 0} (old new : HashSet Key Z) (gone_on left others gone_on_now own others_now : List (Found S)) : Type 0 where
+pub record AreLeft {S Z : Type 0} (old new : HashSet Key Z) (gone_on : ℕ) (left others : List (Found S)) (gone_on_now : ℕ) (own others_now : List (Found S)) : Type 0 where
   pub known : new ≡ old
   pub gone : gone_on_now ≡ gone_on
   pub more : List (Found S)

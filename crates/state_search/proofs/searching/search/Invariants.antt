@@ -8,9 +8,9 @@ abbrev pub invariant-loop-alloc : goal.invariant-loop-alloc
 invariant-loop-alloc g l = record {
   alone : l.going.others.items ≡ [];
   space : g.M.Moves.space l.moves ≡ g.M.Moves.space l.fn.moves;
-  within : IsWithin l.going.searched.gone_on.items l.going.searched.depth l.bounds;
+  within : IsWithin l.going.searched.gone_on l.going.searched.depth l.bounds;
   going : IsGoing (g.M.Moves.begins (g.M.Moves.space l.fn.moves)) (g.M.Moves.expands (g.M.Moves.space l.fn.moves)) l.going.known.set
-      l.going.searched.gone_on.items l.going.searched.left.items l.going.others.items l.going.searched.depth;
+      l.going.searched.gone_on l.going.searched.left.items l.going.others.items l.going.searched.depth;
 }
 
 abbrev pub decreases-loop-alloc : goal.decreases-loop-alloc
