@@ -4,6 +4,7 @@ use crate::point::CrashPlace;
 use crate::promise::Promise;
 use crate::stop::Stop;
 use crate::taker::Taker;
+use crate::told::Told;
 use crate::windows::{Rule, WindowTrier};
 use crash_outcomes::outcome_of;
 use faults::Fault;
@@ -29,7 +30,7 @@ impl<O: Write> Taker for Lister<'_, O> {
         files: &FileList,
         _promise: &Promise,
         place: CrashPlace,
-        _told: &str,
+        _told: Told<'_>,
     ) -> Result<(), Stop> {
         let outcome = outcome_of(self.alloc, files)?;
         let line = outcome.as_str();

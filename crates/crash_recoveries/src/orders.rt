@@ -6,12 +6,13 @@ use crate::recovery::Recovery;
 use crate::stop::Stop;
 use crate::taker::Taker;
 use crate::testing::Tester;
+use crate::told::Told;
 use crate::verdict::{SearchedStates, Untried, Verdict, print_tested, verdict_of};
 use exec_runs::Ending;
 use faults::Fault;
 use files::FileList;
 use progress::Progress;
-use std::alloc::{AllocError, Global};
+use std::alloc::Global;
 use std::io::Write;
 use std::rt::Files;
 use std::thread::Threads;
@@ -50,15 +51,6 @@ fn ending_of(done: Result<SearchedStates, Stop>) -> Result<Ending, Stop> {
     }
 }
 
-/// The processes that made calls, in their order.
-fn calls_text(alloc: Global, calls: &[u32]) -> Result<String, AllocError> {
-    let mut text = String::from_str(alloc, "calls of processes")?;
-    for pid in calls {
-        write!(text, " {pid}")?;
-    }
-    Ok(text)
-}
-
 impl<'a, R: Files + AllocGlobal, E: Write> Orders<'a, R, E> {
     /// Before the first state. How far it has come is told to `err`, if that is wanted.
     pub fn new(
@@ -81,8 +73,8 @@ impl<'a, R: Files + AllocGlobal, E: Write> Orders<'a, R, E> {
         let promise = Promise::of_bytes(self.alloc, shown)?;
         let found = self.tester.found();
         let place = CrashPlace::Order(found.saturating_add(1));
-        let told = calls_text(self.alloc, calls)?;
-        self.tester.take(files, &promise, place, told.as_str())?;
+        self.tester
+            .take(files, &promise, place, Told::Calls(calls))?;
         if self.tester.found() > found {
             self.calls.push(Vec::from_slice(self.alloc, calls)?)?;
         }

@@ -21,8 +21,16 @@ pub enum CrashPlace {
 pub struct CrashPoint {
     pub place: CrashPlace,
     pub outcome: String,
-    /// By another rule than bench's, which changes are there, in words; of an order, whose calls it has.
-    pub told: String,
+    pub told: Telling,
+}
+
+/// What is told of a crash, beside when it came and what it left.
+#[derive(Drop)]
+pub struct Telling {
+    /// By another rule than bench's, which changes are there; of an order, whose calls it has.
+    pub summary: String,
+    /// By another rule than bench's, a line for each change since the last sync.
+    pub changes: String,
 }
 
 impl fmt::Display for CrashPlace {
@@ -39,13 +47,31 @@ impl fmt::Display for CrashPlace {
     }
 }
 
+impl Telling {
+    /// Nothing. Takes no memory.
+    pub fn none(alloc: Global) -> Telling {
+        Telling {
+            summary: String::new(alloc),
+            changes: String::new(alloc),
+        }
+    }
+
+    /// The same, in memory of its own.
+    pub fn try_clone(&self, alloc: Global) -> Result<Telling, AllocError> {
+        Ok(Telling {
+            summary: String::from_str(alloc, self.summary.as_str())?,
+            changes: String::from_str(alloc, self.changes.as_str())?,
+        })
+    }
+}
+
 impl CrashPoint {
     /// The same, in memory of its own.
     pub fn try_clone(&self, alloc: Global) -> Result<CrashPoint, AllocError> {
         Ok(CrashPoint {
             place: self.place,
             outcome: String::from_str(alloc, self.outcome.as_str())?,
-            told: String::from_str(alloc, self.told.as_str())?,
+            told: self.told.try_clone(alloc)?,
         })
     }
 
@@ -56,8 +82,8 @@ impl CrashPoint {
         match place {
             CrashPlace::Filled(moment, fill) => print_outcome(moment, fill, outcome, out),
             CrashPlace::Apart(..) | CrashPlace::Order(_) => {
-                let told = self.told.as_str();
-                writeln!(out, "{place} {outcome}\n{told}")
+                let summary = self.told.summary.as_str();
+                writeln!(out, "{place} {outcome}\n{summary}")
             }
         }
     }

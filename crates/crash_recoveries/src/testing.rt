@@ -12,6 +12,7 @@ use crate::running::{Ran, failure_of};
 use crate::sights::{Sight, Sights};
 use crate::stop::Stop;
 use crate::taker::Taker;
+use crate::told::Told;
 use crate::tried::Tried;
 use faults::Fault;
 use files::FileList;
@@ -293,7 +294,7 @@ impl<R: Files + AllocGlobal, E: Write> Taker for Tester<'_, R, E> {
         files: &FileList,
         promise: &Promise,
         place: CrashPlace,
-        told: &str,
+        told: Told<'_>,
     ) -> Result<(), Stop> {
         if !promise.fits() {
             return Err(Stop::TooLong);
@@ -306,7 +307,7 @@ impl<R: Files + AllocGlobal, E: Write> Taker for Tester<'_, R, E> {
         }
         self.taken.push(Pending {
             place,
-            told: String::from_str(alloc, told)?,
+            told: told.telling(alloc)?,
             files: files.try_clone()?,
             digest,
             promise: promise.try_clone(alloc)?,

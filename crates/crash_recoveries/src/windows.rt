@@ -3,14 +3,17 @@ ghost use Rattle.std.specs.Prelude.{◌≡◌, true, IfSome};
 ghost use Rattle.disk_model.specs.Storage.{is_quiet};
 
 use crate::course::{Course, Playing, RunEnd};
+use crate::deeds::{FileCall, file_call_of};
 use crate::digests::digest_of_files;
+use crate::noted::NotedWindow;
 use crate::point::CrashPlace;
 use crate::promise::Promise;
 use crate::stop::Stop;
 use crate::taker::Taker;
+use crate::told::Told;
 use call_forms::Call;
 use call_lines::call_at;
-use crash_lists::{CrashModel, Enumeration, Listed, Window};
+use crash_lists::{CrashModel, Enumeration, Listed};
 use crash_outcomes::{Moment, moment_of};
 use disk_model::MOST_FILES;
 use exec_runs::Ending;
@@ -71,7 +74,7 @@ impl fmt::Display for Bound {
 #[derive(Drop)]
 struct Closed {
     moment: Moment,
-    window: Window,
+    noted: NotedWindow,
     promise: Promise,
 }
 
@@ -88,11 +91,11 @@ pub struct WindowTrier<'a, R> {
     /// What terminal 0 showed in the boots before.
     shown: Vec<u8>,
     /// The files since the last sync.
-    window: Option<Window>,
-    /// How many changes there were.
-    changes: u64,
+    window: Option<NotedWindow>,
     /// Whether the next event is a sync.
     is_sync: bool,
+    /// The call of the next event, if it may change files.
+    call: Option<FileCall>,
     /// Windows whose lists were not handed out yet.
     closed: Vec<Closed>,
     /// Whether lists were left out, in which more cells are apart.
@@ -127,8 +130,8 @@ impl<'a, R: Files + AllocGlobal> WindowTrier<'a, R> {
             played: String::new(rt.alloc()),
             shown: Vec::new(rt.alloc()),
             window: None,
-            changes: 0,
             is_sync: false,
+            call: None,
             closed: Vec::new(rt.alloc()),
             is_cut: false,
             is_over: false,
@@ -160,10 +163,10 @@ impl<'a, R: Files + AllocGlobal> WindowTrier<'a, R> {
 
     /// Ends the window, with all that was printed.
     fn close(&mut self, core: &Core) -> Result<(), Stop> {
-        if let Some(window) = self.window.take() {
+        if let Some(noted) = self.window.take() {
             self.closed.push(Closed {
                 moment: moment_of(self.boots, core),
-                window,
+                noted,
                 promise: Promise::printed(self.rt.alloc(), self.shown.as_slice(), core)?,
             })?;
         }
@@ -172,20 +175,14 @@ impl<'a, R: Files + AllocGlobal> WindowTrier<'a, R> {
 
     /// Begins a window.
     fn open(&mut self, core: &Core) -> Result<(), Stop> {
-        let files = core.tables().files.try_clone()?;
-        self.window = Some(Window::new(self.rt.alloc(), files)?);
-        self.changes = core.changes();
+        self.window = Some(NotedWindow::new(self.rt.alloc(), core)?);
         Ok(())
     }
 
-    /// Adds the files to the window, where a change made others of them.
+    /// Adds the change to the window that the event made, if it made one.
     fn note(&mut self, core: &Core) -> Result<(), Stop> {
-        let changes = core.changes();
-        if let Some(window) = &mut self.window
-            && changes != self.changes
-        {
-            window.push(core.tables().files.try_clone()?)?;
-            self.changes = changes;
+        if let Some(window) = &mut self.window {
+            window.note(self.rt.alloc(), core, self.call.as_ref())?;
         }
         Ok(())
     }
@@ -204,6 +201,7 @@ impl<'a, R: Files + AllocGlobal> WindowTrier<'a, R> {
     fn hand_out<T: Taker>(
         &mut self,
         closed: &Closed,
+        lists: &Enumeration<'_>,
         listed: &Listed,
         taker: &mut T,
     ) -> Result<(), Stop> {
@@ -214,7 +212,12 @@ impl<'a, R: Files + AllocGlobal> WindowTrier<'a, R> {
             return Ok(());
         }
         let place = CrashPlace::Apart(closed.moment, listed.apart);
-        taker.take(&listed.files, &closed.promise, place, listed.told.as_str())
+        let told = Told::Changes {
+            window: &closed.noted,
+            lists,
+            listed,
+        };
+        taker.take(&listed.files, &closed.promise, place, told)
     }
 }
 
@@ -230,7 +233,7 @@ impl<R: Files + AllocGlobal + Threads + Sync> WindowTrier<'_, R> {
     ) -> Result<bool, Stop> {
         let near = lists.near(self.rt.alloc(), common, apart)?;
         for listed in near.lists.iter().filter(|listed| listed.apart == apart) {
-            self.hand_out(closed, listed, taker)?;
+            self.hand_out(closed, lists, listed, taker)?;
             taker.settle(self.rt)?;
         }
         Ok(near.is_cut)
@@ -245,7 +248,7 @@ impl<R: Files + AllocGlobal + Threads + Sync> WindowTrier<'_, R> {
         taker: &mut T,
     ) -> Result<bool, Stop> {
         let mut is_cut = false;
-        for common in 0..=closed.window.changes() {
+        for common in 0..=closed.noted.window.changes() {
             if self.lists >= MOST_LISTS {
                 self.is_full = true;
                 return Ok(false);
@@ -259,7 +262,7 @@ impl<R: Files + AllocGlobal + Threads + Sync> WindowTrier<'_, R> {
     /// Hands out what a crash may leave in a window, by rising number of cells apart.
     fn try_window<T: Taker>(&mut self, closed: &Closed, taker: &mut T) -> Result<(), Stop> {
         self.lists = 0;
-        let lists = Enumeration::new(self.rt.alloc(), &closed.window, self.rule.model)?;
+        let lists = Enumeration::new(self.rt.alloc(), &closed.noted.window, self.rule.model)?;
         for apart in 0..=self.rule.apart {
             let is_cut = self.try_apart(closed, &lists, apart, taker)?;
             if !is_cut {
@@ -304,6 +307,7 @@ impl<R: Files + AllocGlobal> Visitor for WindowTrier<'_, R> {
 
     fn before(&mut self, core: &Core, event: Event) -> Result<(), Stop> {
         self.is_sync = is_sync(core, event);
+        self.call = file_call_of(self.rt.alloc(), core, event)?;
         Ok(())
     }
 
