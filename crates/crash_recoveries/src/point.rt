@@ -12,8 +12,8 @@ pub enum CrashPlace {
     /// At this moment, and by another rule than bench's so many cells are not as at one moment.
     Apart(Moment, u32),
     /// After an order of calls, when all that they did was committed: of the orders that came to a new disk with its promise the one of
-    /// this number, from 1.
-    Order(u64),
+    /// this number, from 1. By another rule than bench's it need not be committed, and so many cells are not as at one moment.
+    Order(u64, Option<u32>),
 }
 
 /// A crash, and the files that it left, as a line.
@@ -21,7 +21,7 @@ pub enum CrashPlace {
 pub struct CrashPoint {
     pub place: CrashPlace,
     pub outcome: String,
-    /// By another rule than bench's, which changes are there, in words; of an order, whose calls it has.
+    /// Of an order, whose calls it has; by another rule than bench's, which changes are there, in words.
     pub told: String,
 }
 
@@ -34,8 +34,34 @@ impl fmt::Display for CrashPlace {
             CrashPlace::Apart(Moment { boot, event, .. }, count) => {
                 write!(f, "boot {boot} event {event} apart {count}")
             }
-            CrashPlace::Order(number) => write!(f, "order {number}"),
+            CrashPlace::Order(number, None) => write!(f, "order {number}"),
+            CrashPlace::Order(number, Some(count)) => write!(f, "order {number} apart {count}"),
         }
+    }
+}
+
+impl CrashPlace {
+    /// The same by another rule than bench's, where so many cells are not as at one moment.
+    pub fn with_apart(self, count: u32) -> CrashPlace {
+        match self {
+            CrashPlace::Filled(moment, _) | CrashPlace::Apart(moment, _) => {
+                CrashPlace::Apart(moment, count)
+            }
+            CrashPlace::Order(number, _) => CrashPlace::Order(number, Some(count)),
+        }
+    }
+
+    /// The same after the order of this number, if it is after one.
+    pub fn numbered(self, number: u64) -> CrashPlace {
+        match self {
+            CrashPlace::Order(_, apart) => CrashPlace::Order(number, apart),
+            place => place,
+        }
+    }
+
+    /// Whether it is a crash by another rule than bench's.
+    pub fn is_by_rule(self) -> bool {
+        matches!(self, CrashPlace::Apart(..) | CrashPlace::Order(_, Some(_)))
     }
 }
 
@@ -55,7 +81,7 @@ impl CrashPoint {
         let place = self.place;
         match place {
             CrashPlace::Filled(moment, fill) => print_outcome(moment, fill, outcome, out),
-            CrashPlace::Apart(..) | CrashPlace::Order(_) => {
+            CrashPlace::Apart(..) | CrashPlace::Order(..) => {
                 let told = self.told.as_str();
                 writeln!(out, "{place} {outcome}\n{told}")
             }
@@ -66,7 +92,7 @@ impl CrashPoint {
     pub fn events(&self) -> u64 {
         match self.place {
             CrashPlace::Filled(moment, _) | CrashPlace::Apart(moment, _) => moment.event,
-            CrashPlace::Order(_) => 0,
+            CrashPlace::Order(..) => 0,
         }
     }
 
@@ -74,7 +100,7 @@ impl CrashPoint {
     pub fn fill(&self) -> Fill {
         match self.place {
             CrashPlace::Filled(_, fill) => fill,
-            CrashPlace::Apart(..) | CrashPlace::Order(_) => Fill::Unchanged,
+            CrashPlace::Apart(..) | CrashPlace::Order(..) => Fill::Unchanged,
         }
     }
 }

@@ -13,7 +13,8 @@ use crate::stop::Stop;
 use crate::taker::Taker;
 use crate::testing::Tester;
 use crate::trying::Trier;
-use crate::windows::{Bound, Rule, WindowTrier};
+use crate::window_lists::{Bound, Rule};
+use crate::windows::WindowTrier;
 use crash_outcomes::{Moment, PassedOver};
 use exec_runs::Ending;
 use faults::Fault;
@@ -60,8 +61,8 @@ pub enum Untried {
     Passed(PassedOver),
     /// What is past this bound, if no recovery failed.
     Past(Option<Bound>),
-    /// What a search did not come to, which came so far, if it came to its end.
-    Orders(Option<SearchedStates>),
+    /// What a search did not come to, which came so far, if it came to its end; and by another rule than bench's what is past this bound.
+    Orders(Option<SearchedStates>, Option<Bound>),
 }
 
 /// How far a search of all orders of calls came. It prints as the beginning of a line.
@@ -70,11 +71,13 @@ pub struct SearchedStates {
     pub states: u64,
     /// How many calls were tried that do something.
     pub calls: u64,
+    /// Whether no state was left, and each process came to its next call.
+    pub is_whole: bool,
 }
 
 impl fmt::Display for SearchedStates {
     fn fmt<W: fmt::Write>(&self, f: &mut fmt::Formatter<W>) -> fmt::Result {
-        let SearchedStates { states, calls } = self;
+        let SearchedStates { states, calls, .. } = self;
         write!(f, "{states} states, {calls} calls, ")
     }
 }
@@ -200,6 +203,14 @@ fn print_part<O: Write>(part: Part, tally: Tally, out: &mut O) -> io::Result<()>
     )
 }
 
+/// Prints the bound up to which all was tried, if there is one.
+fn print_bound<O: Write>(bound: Option<Bound>, out: &mut O) -> io::Result<()> {
+    match bound {
+        Some(bound) => write!(out, "{bound}"),
+        None => Ok(()),
+    }
+}
+
 /// Prints how much was tried, and what was not.
 fn print_untried<O: Write>(
     disks: usize,
@@ -209,14 +220,15 @@ fn print_untried<O: Write>(
 ) -> io::Result<()> {
     match untried {
         Untried::Passed(passed_over) => print_passed(disks, tally, passed_over, out),
-        Untried::Past(None) | Untried::Orders(None) => print_tried(disks, tally, out),
+        Untried::Past(None) | Untried::Orders(None, _) => print_tried(disks, tally, out),
         Untried::Past(Some(bound)) => {
             print_tried(disks, tally, out)?;
             write!(out, "{bound}")
         }
-        Untried::Orders(Some(searched)) => {
+        Untried::Orders(Some(searched), bound) => {
             write!(out, "{searched}")?;
-            print_tried(disks, tally, out)
+            print_tried(disks, tally, out)?;
+            print_bound(bound, out)
         }
     }
 }
@@ -269,7 +281,7 @@ fn failed_lines(
             CrashPlace::Filled(moment, _) | CrashPlace::Apart(moment, _) => {
                 lines_up_to(alloc, played, moment)
             }
-            CrashPlace::Order(_) => Ok(String::new(alloc)),
+            CrashPlace::Order(..) => Ok(String::new(alloc)),
         },
         None => Ok(String::new(alloc)),
     }

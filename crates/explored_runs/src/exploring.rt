@@ -9,6 +9,7 @@ use crate::runs::Runs;
 use crate::saved::{script_of, setup_lines};
 use crate::summed::Summed;
 use crate::totals::Totals;
+use crate::visited::Visits;
 use faults::{Fault, at_path};
 use progress::{Progress, ProgressCount};
 use scripts::{Setup, write_setup};
@@ -213,7 +214,7 @@ pub fn explore_orders<R: Files + AllocGlobal + Threads + Sync, O: Write, E: Writ
         alloc,
         programs: &programs,
         instructions: limits.instructions,
-        visits: false,
+        visits: Visits::Nothing,
     };
     let mut printer = Printer {
         rt,

@@ -8,7 +8,7 @@ use crate::outcome::{Outcome, outcome_of};
 use crate::programs::Programs;
 use crate::replay::{Called, Replay};
 use crate::state_key::key_of;
-use crate::visited::VisitedState;
+use crate::visited::{VisitedState, Visits};
 use faults::Fault;
 use state_search::Reached;
 use std::alloc::{AllocError, Global};
@@ -47,8 +47,8 @@ pub struct Runs<'a> {
     pub programs: &'a Programs,
     /// How many instructions a process runs at most to its next call.
     pub instructions: u32,
-    /// Whether states are visited.
-    pub visits: bool,
+    /// What is visited.
+    pub visits: Visits,
 }
 
 /// What came of trying a call after a run.
@@ -94,13 +94,26 @@ fn alone(alloc: Global, reached: Reached<Vec<u32>>) -> Result<Vec<Reached<Vec<u3
     Ok(all)
 }
 
+/// The state of a run after which this comes, if it is visited. It has its window where that ends there.
+fn as_it_ends(
+    visited: Option<VisitedState>,
+    is_at_sync: bool,
+    next: &Next,
+) -> Option<VisitedState> {
+    match visited {
+        Some(state) => Some(state.with_window_if(is_at_sync || matches!(next, Next::Over(_)))),
+        None => None,
+    }
+}
+
 impl Runs<'_> {
     /// Boots: the run of no calls.
     pub fn begin(&self) -> Result<Replay, Fault>
         ensures { IfOk result (IsRunOf self.now []) }
     {
         let core = self.programs.boot(self.alloc)?;
-        let replay = Replay::begin(self.alloc, core, self.instructions)?;
+        let keeps_windows = self.visits == Visits::Windows;
+        let replay = Replay::begin(self.alloc, core, self.instructions, keeps_windows)?;
         Ok(replay)
     }
 
@@ -154,7 +167,7 @@ impl Runs<'_> {
 
     /// The state of a run that was replayed, where states are visited.
     fn visited(&self, calls: &[u32], replay: &Replay) -> Result<Option<VisitedState>, Fault> {
-        if !self.visits {
+        if self.visits == Visits::Nothing {
             return Ok(None);
         }
         Ok(Some(VisitedState::of(self.alloc, calls, replay)?))
@@ -167,9 +180,12 @@ impl Runs<'_> {
             → IsNext self.now.instructions (seen_after_calls self.now.instructions (boot_in self.now files) calls.now) calls.now after.next) }
     {
         let replay = self.replay_on(start, calls)?;
+        let visited = self.visited(calls, &replay)?;
+        let is_at_sync = replay.is_at_sync();
+        let next = self.next(calls, replay)?;
         Ok(After {
-            visited: self.visited(calls, &replay)?,
-            next: self.next(calls, replay)?,
+            visited: as_it_ends(visited, is_at_sync, &next),
+            next,
         })
     }
 

@@ -1,6 +1,7 @@
 //! What tells a run from others: a digest of its whole state.
 use crate::replay::Replay;
 use crate::state_digest::StateDigest;
+use crash_lists::Window;
 use files::FileTable;
 use input_reading::MOST_TAPE_BYTES;
 use kernel::{Core, KernelTables};
@@ -72,6 +73,19 @@ fn digest_files(digest: &mut StateDigest, files: &FileTable) {
     }
 }
 
+/// The files at each moment since the last sync, in their order, where they are kept.
+fn digest_window(digest: &mut StateDigest, window: &Option<Window>) {
+    let Some(window) = window else {
+        return;
+    };
+    digest.number(window.changes() as u64);
+    for moment in 0..=window.changes() {
+        if let Some(files) = window.files_at(moment) {
+            digest_files(digest, files);
+        }
+    }
+}
+
 fn digest_pipes(digest: &mut StateDigest, replay: &Replay) {
     let tables = replay.core.tables();
     digest.number(tables.pipes.len() as u64);
@@ -102,12 +116,13 @@ fn digest_ends(digest: &mut StateDigest, core: &Core) {
 
 /// The key of a run: the first 128 bits of the SHA-256 digest of its state. The state is that of each process, with all replies that
 /// it got, the files with their numbers, the pipes with all that was ever written to them, and what is left of tapes and was
-/// written to terminals.
+/// written to terminals. Where windows are kept it has the files at each moment since the last sync too.
 pub fn key_of(replay: &Replay) -> Key {
     let mut digest = StateDigest::new();
     digest_processes(&mut digest, replay);
     digest_files(&mut digest, replay.core.tables().files);
     digest_pipes(&mut digest, replay);
     digest_ends(&mut digest, &replay.core);
+    digest_window(&mut digest, &replay.window);
     digest.key()
 }

@@ -8,7 +8,7 @@ use crate::run_search::{Heard, Listener, search_runs};
 use crate::runs::Runs;
 use crate::saved::lines_of;
 use crate::totals::Totals;
-use crate::visited::VisitedState;
+use crate::visited::{VisitedState, Visits};
 use faults::Fault;
 use kernel::Core;
 use scripts::Setup;
@@ -130,12 +130,14 @@ impl<T: StateTaker> Visiting<'_, T> {
 }
 
 /// Has each state taken that a search of all orders of the calls of programs finds, once, those of fewest calls first. Where the limits
-/// cut the search, the states that it left are not taken, and the result says how many they are. The whole is searched, whatever part the
-/// limits name. The programs are read first. What is taken is the same, however many threads search.
+/// cut the search, the states that it left are not taken, and the result says how many they are. Where windows are visited, states are two
+/// also where the files were others at a moment since the last sync. The whole is searched, whatever part the limits name. The programs are
+/// read first. What is taken is the same, however many threads search.
 pub fn explore_states<R: Files + AllocGlobal + Threads + Sync, T: StateTaker>(
     rt: &R,
     setup: &mut Setup,
     limits: Limits,
+    visits: Visits,
     taker: &mut T,
 ) -> Result<ExploredStates, T::Fault> {
     let programs = Programs::of_setup(rt, setup)?;
@@ -143,7 +145,7 @@ pub fn explore_states<R: Files + AllocGlobal + Threads + Sync, T: StateTaker>(
         alloc: rt.alloc(),
         programs: &programs,
         instructions: limits.instructions,
-        visits: true,
+        visits,
     };
     let visiting = Visiting {
         taker,
@@ -165,7 +167,7 @@ fn run_of_calls<R: Files + AllocGlobal>(
         alloc: rt.alloc(),
         programs: &programs,
         instructions,
-        visits: false,
+        visits: Visits::Nothing,
     };
     runs.replay(calls)
 }

@@ -14,4 +14,4 @@ returns c = λ files stand.
     let run = c.in_ok-replay.ensures in
     let same = one_files r.programs.now.disk c.in_ok-replay.replay.core.boot.files files run.files stand in
     let seen = run.seen ∙ ap (λ (fs : List NamedFile). seen_after_calls r.instructions (boot_in r fs) calls) same in
-    subst (λ (s : Seen). IsNext r.instructions s calls c.in_ok-next.field-0) seen c.in_ok-next.ensures
+    subst (λ (s : Seen). IsNext r.instructions s calls c.in_ok-next.next) seen c.in_ok-next.ensures
