@@ -1,40 +1,24 @@
 -- The words of an expansion mean its instructions.
-use Rattle.std.proofs.Common.{ℕ, ℤ, pos, negsuc, ◌-ℤ◌, ◌≡◌, ◌<◌, ◌%◌, ◌^◌, true, false, Option, Some, None, refl, subst, arith}
+use Rattle.std.proofs.Common.{ℕ, ℤ, pos, negsuc, ◌-ℤ◌, ◌≡◌, ◌<◌, ◌%◌, ◌^◌, true, false, Option, Some, None, refl, subst, arith, lit<}
 use Rattle.std.specs.Prelude.{◌==◌, if◌then◌else◌}
-use Rattle.std.specs.Option.{option_map}
-use Rattle.std.specs.Int.{cast_signed, w32}
-use Rattle.std.proofs.lemmas.Bool.Decides.{nat_tests}
-use Rattle.std.proofs.lemmas.Int.{ints}
-use Rattle.formats.specs.Fields.{signed}
-use Rattle.formats.specs.Meaning.{Means}
-use Rattle.formats.specs.declared.instr.Instr.{Instr}
+use Rattle.std.specs.{Option.option_map, Int.cast_signed, Int.w32}
+use Rattle.std.proofs.{lemmas.Bool.Decides.nat_tests, lemmas.Int.ints}
+use Rattle.formats.specs.{Fields.signed, Meaning.Means, declared.instr.Instr.Instr, declared.operators.Arithmetic.Arithmetic, declared.operators.ShiftOperator.ShiftOperator}
 use Rattle.formats.specs.declared.instr.Instr.TheVariants as instr
-use Rattle.formats.specs.declared.operators.Arithmetic.{Arithmetic}
 use Rattle.formats.specs.declared.operators.Arithmetic.TheVariants.{Sub, Slt, Sltu}
-use Rattle.formats.specs.declared.operators.ImmediateOperator.{ImmediateOperator}
+use Rattle.formats.specs.{declared.operators.ImmediateOperator.ImmediateOperator, declared.operators.LoadOperator.LoadOperator, declared.operators.Condition.Condition}
 use Rattle.formats.specs.declared.operators.ImmediateOperator.TheVariants.{Addi, Sltiu, Xori}
-use Rattle.formats.specs.declared.operators.ShiftOperator.{ShiftOperator}
-use Rattle.formats.specs.declared.operators.LoadOperator.{LoadOperator}
-use Rattle.formats.specs.declared.operators.Condition.{Condition}
 use Rattle.formats.proofs.Fits.{register-funct3, register-funct7, immediate-funct3, shift-funct3, shift-funct7, load-funct3, store-funct3, branch-funct3}
 use Rattle.memory_model.specs.declared.access.Width.{Width}
-use Rattle.asm_statements.specs.Encoding.{complement, word_of}
-use Rattle.asm_statements.specs.Expansion.{immediate_of, branch_offset_of, jump_offset_of, upper_of, amount_of, modulo_word, low_part, high_part, upper_instr, unary_instr, plain_instr, link_register, long_expansion, fitting_expansion, li_expansion, la_expansion, written, expansion_of}
-use Rattle.asm_statements.specs.declared.mnemonic.Mnemonic.{Mnemonic}
+use Rattle.asm_statements.specs.Expansion.{complement, word_of, immediate_of, offset_of, amount_of, modulo_word, low_part, high_part, upper_instr, unary_instr, plain_instr, link_register, fitting_expansion, li_expansion, la_expansion, written, expansion_of}
+use Rattle.asm_statements.specs.{declared.mnemonic.Mnemonic.Mnemonic, declared.mnemonic.UpperOp.UpperOp, declared.mnemonic.Link.Link, declared.mnemonic.UnaryOp.UnaryOp}
 use Rattle.asm_statements.specs.declared.mnemonic.Mnemonic.TheVariants as form
-use Rattle.asm_statements.specs.declared.mnemonic.UpperOp.{UpperOp}
-use Rattle.asm_statements.specs.declared.mnemonic.UpperOp.TheVariants.{Lui, Auipc}
-use Rattle.asm_statements.specs.declared.mnemonic.Link.{Link}
-use Rattle.asm_statements.specs.declared.mnemonic.Link.TheVariants.{Zero, Ra}
-use Rattle.asm_statements.specs.declared.mnemonic.UnaryOp.{UnaryOp}
+use Rattle.asm_statements.specs.{declared.mnemonic.UpperOp.TheVariants.Lui, declared.mnemonic.UpperOp.TheVariants.Auipc, declared.mnemonic.PlainOp.PlainOp}
+use Rattle.asm_statements.specs.{declared.mnemonic.Link.TheVariants.Zero, declared.mnemonic.Link.TheVariants.Ra, declared.operands.Operands.Operands}
 use Rattle.asm_statements.specs.declared.mnemonic.UnaryOp.TheVariants.{Mv, Not, Neg, Seqz, Snez, Sltz, Sgtz}
-use Rattle.asm_statements.specs.declared.mnemonic.PlainOp.{PlainOp}
 use Rattle.asm_statements.specs.declared.mnemonic.PlainOp.TheVariants.{Nop, Ret, Fence, FenceI, Ecall, Ebreak}
-use Rattle.asm_statements.specs.declared.operands.Operands.{Operands}
-use Rattle.asm_statements.specs.declared.expansion.Expansion.{Expansion}
-use Rattle.asm_statements.specs.declared.expansion.Expansion.TheVariants.{One, Two}
-use Rattle.asm_statements.proofs.Registers.{HasRegisters}
-use Rattle.asm_statements.proofs.Encodings.{complement-signed}
+use Rattle.asm_statements.specs.{declared.expansion.Expansion.Expansion, declared.expansion.Expansion.TheVariants.One, declared.expansion.Expansion.TheVariants.Two}
+use Rattle.asm_statements.proofs.{Registers.HasRegisters, Encodings.complement-signed}
 use Rattle.asm_statements.proofs.Meanings.{IsHeld, r_word_means, shift_word_means, i_word_means, s_word_means, b_word_means, u_word_means, j_word_means}
 
 -- ---- the numbers that pass the tests fit their fields
@@ -49,25 +33,20 @@ record IsOffset (k : ℕ) (offset : ℤ) : Type 0 where
   held : IsHeld k offset
   even : complement (2 ^ k) offset % 2 ≡ 0
 
-branch_held : (v offset : ℤ) → branch_offset_of v ≡ Some offset → IsOffset 13 offset
-unfolding branch_offset_of
+branch_held : (v offset : ℤ) → offset_of 4096 v ≡ Some offset → IsOffset 13 offset
+unfolding offset_of
 branch_held (pos n) offset is = record { held = record { small = grind (arith, nat_tests, ints); held = grind (arith, nat_tests, ints) }; even = grind (arith, nat_tests, ints) }
 branch_held (negsuc n) offset is = record { held = record { small = grind (arith, nat_tests, ints); held = grind (arith, nat_tests, ints) }; even = grind (arith, nat_tests, ints) }
 
-jump_held : (v offset : ℤ) → jump_offset_of v ≡ Some offset → IsOffset 21 offset
-unfolding jump_offset_of
+jump_held : (v offset : ℤ) → offset_of 1048576 v ≡ Some offset → IsOffset 21 offset
+unfolding offset_of
 jump_held (pos n) offset is = record { held = record { small = grind (arith, nat_tests, ints); held = grind (arith, nat_tests, ints) }; even = grind (arith, nat_tests, ints) }
 jump_held (negsuc n) offset is = record { held = record { small = grind (arith, nat_tests, ints); held = grind (arith, nat_tests, ints) }; even = grind (arith, nat_tests, ints) }
 
-upper-below : (v : ℤ) (u : ℕ) → upper_of v ≡ Some u → u < 2 ^ 20
-unfolding upper_of
-upper-below (pos n) u is = grind (arith, nat_tests)
-upper-below (negsuc n) u is = cc
-
-amount-below : (v : ℤ) (n : ℕ) → amount_of v ≡ Some n → n < 32
+amount-below : (limit : ℕ) (v : ℤ) (u : ℕ) → amount_of limit v ≡ Some u → u < limit
 unfolding amount_of
-amount-below (pos n) u is = grind (arith, nat_tests)
-amount-below (negsuc n) u is = cc
+amount-below limit (pos n) u is = grind (arith, nat_tests)
+amount-below limit (negsuc n) u is = cc
 
 pub modulo-below : (z : ℤ) → modulo_word z < 2 ^ 32
 unfolding modulo_word
@@ -87,10 +66,10 @@ pub low_held : (u : ℕ) → IsHeld 12 (low_part u)
 unfolding low_part
 low_held u = signed_held (u % 2 ^ 12) (omega arith)
 
--- ---- each form's instruction is what its word means
+-- ---- each form's instruction is what its word means, which is below 2^32
 
-abbrev IsMeant : Instr → Type 0
-IsMeant i = Means (word_of i) i
+abbrev pub IsMeant : Instr → Type 0
+IsMeant i = (word_of i < 2 ^ 32) × Means (word_of i) i
 
 register-meant : (op : Arithmetic) (rd rs1 rs2 : ℕ) → rd < 32 → rs1 < 32 → rs2 < 32 → IsMeant (instr.Register op rd rs1 rs2)
 unfolding word_of
@@ -151,10 +130,10 @@ plain-meant : (op : PlainOp) → IsMeant (plain_instr op)
 unfolding word_of
 plain-meant Nop = immediate-meant Addi 0 0 (pos 0) (omega arith) (omega arith) held_zero
 plain-meant Ret = jalr-meant 0 1 (pos 0) (omega arith) (omega arith) held_zero
-plain-meant Fence = (refl, refl)
-plain-meant FenceI = (refl, refl)
-plain-meant Ecall = refl
-plain-meant Ebreak = refl
+plain-meant Fence = (lit< tt, (refl, refl))
+plain-meant FenceI = (lit< tt, (refl, refl))
+plain-meant Ecall = (lit< tt, refl)
+plain-meant Ebreak = (lit< tt, refl)
 
 link-below : (link : Link) → link_register link < 32
 link-below Zero = omega arith
@@ -164,8 +143,8 @@ link-below Ra = omega arith
 
 -- each instruction of an expansion is what its word means
 abbrev pub AreMeant : Expansion → Type 0
-AreMeant (One i) = Means (word_of i) i
-AreMeant (Two i j) = Means (word_of i) i × Means (word_of j) j
+AreMeant (One i) = IsMeant i
+AreMeant (Two i j) = IsMeant i × IsMeant j
 
 same_expansion : (d e : Expansion) → Some d ≡ Some e → AreMeant d → AreMeant e
 same_expansion d e is h = let same : d ≡ e = cc in subst (λ (x : Expansion). AreMeant x) same h
@@ -174,7 +153,7 @@ one-meant : {A : Type 0} (f : A → Instr) (x : Option A) (e : Expansion) → ((
 one-meant f (Some a) e h is = same_expansion (One (f a)) e is (h a refl)
 one-meant f None e h is = cc
 
-long-meant : (rd u : ℕ) → rd < 32 → AreMeant (long_expansion rd u)
+long-meant : (rd u : ℕ) → rd < 32 → AreMeant (fitting_expansion rd u None)
 long-meant rd u a =
     elim (u % 2 ^ 12 == 0) as (λ b. AreMeant (if b then One (instr.Lui rd (high_part u)) else Two (instr.Lui rd (high_part u)) (instr.Immediate Addi rd rd (low_part u)))) [
       | true ↦ upper-meant Lui rd (high_part u) a (high-below u)
@@ -189,17 +168,17 @@ fitting-meant rd u v None a is = long-meant rd u a
 pub expansion-meant : (m : Mnemonic) (o : Operands) (v : ℤ) (e : Expansion) → HasRegisters o → expansion_of m o v ≡ Some e → AreMeant e
 expansion-meant (form.Registers op) o v e h is = same_expansion _ e is (register-meant op o.first o.second o.third h.first h.second h.third)
 expansion-meant (form.Immediate op) o v e h is = one-meant (λ imm. instr.Immediate op o.first o.second imm) (immediate_of v) e (λ imm found. immediate-meant op o.first o.second imm h.first h.second (immediate_held v imm found)) is
-expansion-meant (form.Shift op) o v e h is = one-meant (λ amount. instr.Shift op o.first o.second amount) (amount_of v) e (λ amount found. shift-meant op o.first o.second amount h.first h.second (amount-below v amount found)) is
+expansion-meant (form.Shift op) o v e h is = one-meant (λ amount. instr.Shift op o.first o.second amount) (amount_of 32 v) e (λ amount found. shift-meant op o.first o.second amount h.first h.second (amount-below 32 v amount found)) is
 expansion-meant (form.Load op) o v e h is = one-meant (λ imm. instr.Load op o.first o.second imm) (immediate_of v) e (λ imm found. load-meant op o.first o.second imm h.first h.second (immediate_held v imm found)) is
 expansion-meant (form.Store op) o v e h is = one-meant (λ imm. instr.Store op o.second o.first imm) (immediate_of v) e (λ imm found. store-meant op o.second o.first imm h.second h.first (immediate_held v imm found)) is
-expansion-meant (form.Branch op) o v e h is = one-meant (λ offset. instr.Branch op o.first o.second offset) (branch_offset_of v) e (λ offset found. branch-meant op o.first o.second offset h.first h.second (branch_held v offset found)) is
-expansion-meant (form.Swapped op) o v e h is = one-meant (λ offset. instr.Branch op o.second o.first offset) (branch_offset_of v) e (λ offset found. branch-meant op o.second o.first offset h.second h.first (branch_held v offset found)) is
-expansion-meant (form.WithZero op) o v e h is = one-meant (λ offset. instr.Branch op o.first 0 offset) (branch_offset_of v) e (λ offset found. branch-meant op o.first 0 offset h.first (omega arith) (branch_held v offset found)) is
-expansion-meant (form.FromZero op) o v e h is = one-meant (λ offset. instr.Branch op 0 o.first offset) (branch_offset_of v) e (λ offset found. branch-meant op 0 o.first offset (omega arith) h.first (branch_held v offset found)) is
-expansion-meant (form.Upper op) o v e h is = one-meant (λ u. upper_instr op o.first u) (upper_of v) e (λ u found. upper-meant op o.first u h.first (upper-below v u found)) is
-expansion-meant form.Jal o v e h is = one-meant (λ offset. instr.Jal o.first offset) (jump_offset_of v) e (λ offset found. jump-meant o.first offset h.first (jump_held v offset found)) is
+expansion-meant (form.Branch op) o v e h is = one-meant (λ offset. instr.Branch op o.first o.second offset) (offset_of 4096 v) e (λ offset found. branch-meant op o.first o.second offset h.first h.second (branch_held v offset found)) is
+expansion-meant (form.Swapped op) o v e h is = one-meant (λ offset. instr.Branch op o.second o.first offset) (offset_of 4096 v) e (λ offset found. branch-meant op o.second o.first offset h.second h.first (branch_held v offset found)) is
+expansion-meant (form.WithZero op) o v e h is = one-meant (λ offset. instr.Branch op o.first 0 offset) (offset_of 4096 v) e (λ offset found. branch-meant op o.first 0 offset h.first (omega arith) (branch_held v offset found)) is
+expansion-meant (form.FromZero op) o v e h is = one-meant (λ offset. instr.Branch op 0 o.first offset) (offset_of 4096 v) e (λ offset found. branch-meant op 0 o.first offset (omega arith) h.first (branch_held v offset found)) is
+expansion-meant (form.Upper op) o v e h is = one-meant (λ u. upper_instr op o.first u) (amount_of 1048576 v) e (λ u found. upper-meant op o.first u h.first (amount-below 1048576 v u found)) is
+expansion-meant form.Jal o v e h is = one-meant (λ offset. instr.Jal o.first offset) (offset_of 1048576 v) e (λ offset found. jump-meant o.first offset h.first (jump_held v offset found)) is
 expansion-meant form.Jalr o v e h is = one-meant (λ imm. instr.Jalr o.first o.second imm) (immediate_of v) e (λ imm found. jalr-meant o.first o.second imm h.first h.second (immediate_held v imm found)) is
-expansion-meant (form.Jump link) o v e h is = one-meant (λ offset. instr.Jal (link_register link) offset) (jump_offset_of v) e (λ offset found. jump-meant (link_register link) offset (link-below link) (jump_held v offset found)) is
+expansion-meant (form.Jump link) o v e h is = one-meant (λ offset. instr.Jal (link_register link) offset) (offset_of 1048576 v) e (λ offset found. jump-meant (link_register link) offset (link-below link) (jump_held v offset found)) is
 expansion-meant (form.JumpRegister link) o v e h is = same_expansion _ e is (jalr-meant (link_register link) o.first (pos 0) (link-below link) h.first held_zero)
 expansion-meant (form.Unary op) o v e h is = same_expansion _ e is (unary-meant op o.first o.second h.first h.second)
 expansion-meant (form.Plain op) o v e h is = same_expansion _ e is (plain-meant op)

@@ -1,9 +1,7 @@
 -- Where an operand is missing.
 use Rattle.std.proofs.Common.{ℕ, ◌≡◌, ◌<◌, List, [], ◌∷◌, length, drop, Err, refl, arith, length-drop}
 use Rattle.asm_text.specs.declared.token.Token.{Token}
-use Rattle.asm_statements.specs.Operands.{operands_read}
-use Rattle.asm_statements.specs.declared.operands.Slot.{Slot}
-use Rattle.asm_statements.specs.declared.operands.Operands.{Operands}
+use Rattle.asm_statements.specs.{Statements.operands_read, declared.operands.Slot.Slot, declared.operands.Operands.Operands}
 
 missing : (source : List ℕ) (end : ℕ) (slots : List Slot) (o : Operands) → 0 < length slots → operands_read source end slots [] o ≡ Err end
 missing source end [] o more = absurd (omega arith)

@@ -1,8 +1,7 @@
 -- The two parts of a number add up to it.
 use Rattle.std.proofs.Common.{ℕ, ℤ, pos, negsuc, ◌+ℤ◌, ◌-ℤ◌, ◌≡◌, ◌+◌, ◌-◌, ◌*◌, ◌/◌, ◌%◌, ◌^◌, ◌≤◌, true, false, nat_lt, refl, ◌∙◌, arith}
 use Rattle.std.specs.Prelude.{if◌then◌else◌}
-use Rattle.std.proofs.lemmas.Int.{ints}
-use Rattle.std.proofs.lemmas.Bool.Decides.{nat_tests}
+use Rattle.std.proofs.{lemmas.Int.ints, lemmas.Bool.Decides.nat_tests}
 use Rattle.asm_statements.specs.Expansion.{modulo_word, low_part, high_part}
 
 pub modulo_pos : (z : ℤ) (n : ℕ) → z ≡ pos n → modulo_word z ≡ n % 2 ^ 32

@@ -2,24 +2,17 @@
 use Rattle.std.proofs.Common.{ℕ, ℤ, ◌≡◌, ◌<◌, Bool, true, false, List, [], ◌∷◌, Option, Some, None, Result, Ok, Err, refl, subst, arith}
 use Rattle.std.specs.Prelude.{if◌then◌else◌}
 use Rattle.std.specs.Option.{ok_or}
-use Rattle.asm_text.specs.declared.token.Token.{Token}
+use Rattle.asm_text.specs.{declared.token.Token.Token, Text.is_word}
 use Rattle.asm_text.specs.declared.token.TokenKind.TheVariants.{Comma, Open, Close}
-use Rattle.asm_statements.specs.Names.{named, registers, mnemonics, directives}
-use Rattle.asm_statements.specs.Tokens.{text_at, is_word, is_mark, number_of, is_string, is_label, register_at}
-use Rattle.asm_statements.specs.Operands.{slot_read, after_slot, operands_read, no_operands, with_value, bare_label, target_read, slots_of, chosen}
-use Rattle.asm_statements.specs.Statements.{with_no_more, numbers_read, ascii_read, space_read, directive_read, instruction_read, word_read, statement_read}
-use Rattle.asm_statements.specs.declared.mnemonic.Mnemonic.{Mnemonic}
-use Rattle.asm_statements.specs.declared.mnemonic.Directive.{Directive}
+use Rattle.asm_statements.specs.{Names.named, Names.registers, Names.mnemonics, Names.directives, declared.mnemonic.Mnemonic.Mnemonic, declared.mnemonic.Directive.Directive}
+use Rattle.asm_statements.specs.{Tokens.text_at, Tokens.is_mark, Tokens.number_of, Tokens.is_string, Tokens.is_label, Tokens.register_at, declared.operands.Slot.Slot}
+use Rattle.asm_statements.specs.Statements.{slot_read, after_slot, operands_read, no_operands, bare_label, target_read, slots_of, chosen, with_no_more, numbers_read, ascii_read, space_read, directive_read, instruction_read, word_read, statement_read}
 use Rattle.asm_statements.specs.declared.mnemonic.Directive.TheVariants as directive
-use Rattle.asm_statements.specs.declared.operands.Slot.{Slot}
 use Rattle.asm_statements.specs.declared.operands.Slot.TheVariants as slot
-use Rattle.asm_statements.specs.declared.operands.Value.{Value}
+use Rattle.asm_statements.specs.{declared.operands.Value.Value, declared.operands.Operands.Operands, declared.statement.Statement.Statement}
 use Rattle.asm_statements.specs.declared.operands.Value.TheVariants as operand
-use Rattle.asm_statements.specs.declared.operands.Operands.{Operands}
-use Rattle.asm_statements.specs.declared.statement.Statement.{Statement}
 use Rattle.asm_statements.specs.declared.statement.Statement.TheVariants as statement
-use Rattle.asm_statements.proofs.Stepping.{and_then-ok, ok_or-ok}
-use Rattle.asm_statements.proofs.Tables.{register-below}
+use Rattle.asm_statements.proofs.{Stepping.and_then-ok, Stepping.ok_or-ok, Tables.register-below}
 
 -- the operands' registers are registers
 pub record HasRegisters (o : Operands) : Type 0 where
@@ -58,12 +51,12 @@ slot-registers source end slot.Comma t ts o p h is = mark-registers (is_mark Com
 slot-registers source end slot.Open t ts o p h is = mark-registers (is_mark Open t.kind) t.start o p h is
 slot-registers source end slot.Close t ts o p h is = mark-registers (is_mark Close t.kind) t.start o p h is
 slot-registers source end slot.Number t ts o p h is =
-    let (n, _, made) = and_then-ok (ok_or (number_of t.kind) t.start) (λ (n : ℤ). Ok (with_value o (operand.Number n) t.start)) p is in
-    subst (λ (x : Operands). HasRegisters x) (same_operands (with_value o (operand.Number n) t.start) p made) (record { first = h.first; second = h.second; third = h.third })
+    let (n, _, made) = and_then-ok (ok_or (number_of t.kind) t.start) (λ (n : ℤ). Ok (record o { value = operand.Number n; at = t.start })) p is in
+    subst (λ (x : Operands). HasRegisters x) (same_operands (record o { value = operand.Number n; at = t.start }) p made) (record { first = h.first; second = h.second; third = h.third })
 slot-registers source end slot.Target t ts o p h is =
-    let (v, _, made) = and_then-ok (target_read source end t ts) (λ (v : Value). Ok (with_value o v t.start)) p is in
-    subst (λ (x : Operands). HasRegisters x) (same_operands (with_value o v t.start) p made) (record { first = h.first; second = h.second; third = h.third })
-slot-registers source end slot.Label t ts o p h is = mark-registers (is_label source t) t.start (with_value o (bare_label t) t.start) p (record { first = h.first; second = h.second; third = h.third }) is
+    let (v, _, made) = and_then-ok (target_read source end t ts) (λ (v : Value). Ok (record o { value = v; at = t.start })) p is in
+    subst (λ (x : Operands). HasRegisters x) (same_operands (record o { value = v; at = t.start }) p made) (record { first = h.first; second = h.second; third = h.third })
+slot-registers source end slot.Label t ts o p h is = mark-registers (is_label source t) t.start (record o { value = bare_label t; at = t.start }) p (record { first = h.first; second = h.second; third = h.third }) is
 
 -- operands that were read into others have registers if these do
 pub operands-registers : (source : List ℕ) (end : ℕ) (slots : List Slot) (ts : List Token) (o p : Operands) → HasRegisters o → operands_read source end slots ts o ≡ Ok p → HasRegisters p

@@ -1,7 +1,7 @@
 -- Steps that all gave a value.
 use Rattle.std.proofs.Common.{◌≡◌, Result, Ok, Err, Option, Some, None, refl, ap}
 use Rattle.std.specs.Option.{ok_or}
-use Rattle.asm_statements.specs.Steps.{and_then}
+use Rattle.asm_statements.specs.Tokens.{and_then}
 
 pub and_then-ok : {A B E : Type 0} (r : Result A E) (f : A → Result B E) (y : B) → and_then r f ≡ Ok y → (x : A) × (r ≡ Ok x) × (f x ≡ Ok y)
 and_then-ok (Ok x) f y is = (x, refl, is)

@@ -1,7 +1,6 @@
 -- What a table of names gives.
 use Rattle.std.proofs.Common.{ℕ, ◌≡◌, ◌<◌, true, false, List, [], ◌∷◌, Some, arith, refl, nat_lt}
-use Rattle.std.specs.List.{list_all}
-use Rattle.std.specs.Str.{bytes_eq}
+use Rattle.std.specs.{List.list_all, Str.bytes_eq}
 use Rattle.std.proofs.lemmas.Bool.Decides.{nat_tests}
 use Rattle.asm_statements.specs.Names.{named, registers}
 

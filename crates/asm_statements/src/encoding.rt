@@ -1,6 +1,6 @@
 //! The words of instructions.
 ghost use Rattle.std.specs.Prelude.{◌≡◌};
-ghost use Rattle.asm_statements.specs.Encoding.{word_of};
+ghost use Rattle.asm_statements.specs.Expansion.{word_of};
 
 use formats::{Instr, encode};
 

@@ -3,7 +3,7 @@ ghost use Rattle.std.specs.Prelude.{◌≡◌};
 ghost use Rattle.std.specs.Option.{option_map};
 ghost use Rattle.formats.specs.declared.instr.Instr.TheVariants as instr;
 ghost use Rattle.asm_statements.specs.declared.expansion.Expansion.TheVariants.{One};
-ghost use Rattle.asm_statements.specs.Expansion.{immediate_of, branch_offset_of, jump_offset_of, upper_of, amount_of, expansion_of, upper_instr, unary_instr, plain_instr, link_register, li_expansion, la_expansion, written, words_taken};
+ghost use Rattle.asm_statements.specs.Expansion.{immediate_of, offset_of, amount_of, expansion_of, upper_instr, unary_instr, plain_instr, link_register, li_expansion, la_expansion, written, words_taken};
 
 use crate::fields::{
     amount, branch_offset, high_part, immediate, jump_offset, low_part, modulo_word, upper,
@@ -147,7 +147,7 @@ fn immediate_instr(operator: ImmediateOperator, rd: Reg, rs1: Reg, number: i64) 
 }
 
 fn shift_instr(operator: ShiftOperator, rd: Reg, rs1: Reg, number: i64) -> Option<Expansion>
-    ensures { result ≡ option_map (λ amount. One (instr.Shift operator rd rs1 amount)) (amount_of number) }
+    ensures { result ≡ option_map (λ amount. One (instr.Shift operator rd rs1 amount)) (amount_of 32 number) }
 {
     let amount = amount(number)?;
     Some(Expansion::One(Instr::Shift {
@@ -183,7 +183,7 @@ fn store_instr(width: Width, rs1: Reg, rs2: Reg, number: i64) -> Option<Expansio
 }
 
 fn branch_instr(condition: Condition, rs1: Reg, rs2: Reg, number: i64) -> Option<Expansion>
-    ensures { result ≡ option_map (λ offset. One (instr.Branch condition rs1 rs2 offset)) (branch_offset_of number) }
+    ensures { result ≡ option_map (λ offset. One (instr.Branch condition rs1 rs2 offset)) (offset_of 4096 number) }
 {
     let offset = branch_offset(number)?;
     Some(Expansion::One(Instr::Branch {
@@ -195,7 +195,7 @@ fn branch_instr(condition: Condition, rs1: Reg, rs2: Reg, number: i64) -> Option
 }
 
 fn upper_instr(op: UpperOp, rd: Reg, number: i64) -> Option<Expansion>
-    ensures { result ≡ option_map (λ imm. One (upper_instr op rd imm)) (upper_of number) }
+    ensures { result ≡ option_map (λ imm. One (upper_instr op rd imm)) (amount_of 1048576 number) }
 {
     let imm = upper(number)?;
     let instr = match op {
@@ -207,7 +207,7 @@ fn upper_instr(op: UpperOp, rd: Reg, number: i64) -> Option<Expansion>
 
 /// A JAL to a distance, where it fits.
 fn jump_instr(rd: Reg, number: i64) -> Option<Expansion>
-    ensures { result ≡ option_map (λ offset. One (instr.Jal rd offset)) (jump_offset_of number) }
+    ensures { result ≡ option_map (λ offset. One (instr.Jal rd offset)) (offset_of 1048576 number) }
 {
     let offset = jump_offset(number)?;
     Some(Expansion::One(Instr::Jal { rd, offset }))

@@ -1,6 +1,6 @@
 //! Numbers that fit the fields of an instruction, and the parts of a word.
 ghost use Rattle.std.specs.Prelude.{◌≡◌};
-ghost use Rattle.asm_statements.specs.Expansion.{immediate_of, branch_offset_of, jump_offset_of, upper_of, amount_of, modulo_word, low_part, high_part};
+ghost use Rattle.asm_statements.specs.Expansion.{immediate_of, offset_of, amount_of, modulo_word, low_part, high_part};
 
 use formats::{BranchOffset, Immediate, JumpOffset, ShiftAmount, Upper};
 
@@ -17,9 +17,9 @@ pub fn immediate(value: i64) -> Option<Immediate>
 }
 
 /// A multiple of 4 from -4096 to 4092, else none.
-#[tactic(auto, unfolding(crate::specs::Expansion::branch_offset_of))]
+#[tactic(auto, unfolding(crate::specs::Expansion::offset_of))]
 pub fn branch_offset(value: i64) -> Option<BranchOffset>
-    ensures { result ≡ branch_offset_of value }
+    ensures { result ≡ offset_of 4096 value }
 {
     if value >= -4096 && value <= 4092 && value.cast_unsigned() % 4 == 0 {
         Some(BranchOffset::new(value as i32))
@@ -29,9 +29,9 @@ pub fn branch_offset(value: i64) -> Option<BranchOffset>
 }
 
 /// A multiple of 4 from -1048576 to 1048572, else none.
-#[tactic(auto, unfolding(crate::specs::Expansion::jump_offset_of))]
+#[tactic(auto, unfolding(crate::specs::Expansion::offset_of))]
 pub fn jump_offset(value: i64) -> Option<JumpOffset>
-    ensures { result ≡ jump_offset_of value }
+    ensures { result ≡ offset_of 1048576 value }
 {
     if value >= -1048576 && value <= 1048572 && value.cast_unsigned() % 4 == 0 {
         Some(JumpOffset::new(value as i32))
@@ -41,9 +41,9 @@ pub fn jump_offset(value: i64) -> Option<JumpOffset>
 }
 
 /// 0 to 0xFFFFF, not yet shifted; else none.
-#[tactic(auto, unfolding(crate::specs::Expansion::upper_of))]
+#[tactic(auto, unfolding(crate::specs::Expansion::amount_of))]
 pub fn upper(value: i64) -> Option<Upper>
-    ensures { result ≡ upper_of value }
+    ensures { result ≡ amount_of 1048576 value }
 {
     if value >= 0 && value <= 1048575 {
         Some(Upper::new(value as u32))
@@ -55,7 +55,7 @@ pub fn upper(value: i64) -> Option<Upper>
 /// 0 to 31, else none.
 #[tactic(auto, unfolding(crate::specs::Expansion::amount_of))]
 pub fn amount(value: i64) -> Option<ShiftAmount>
-    ensures { result ≡ amount_of value }
+    ensures { result ≡ amount_of 32 value }
 {
     if value >= 0 && value <= 31 {
         Some(ShiftAmount::new(value as u8))

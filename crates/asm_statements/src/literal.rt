@@ -1,6 +1,6 @@
 //! Numbers that a source may name.
 ghost use Rattle.std.specs.Prelude.{◌≡◌, ℤ, pos};
-ghost use Rattle.asm_statements.specs.Literals.{IsLiteral};
+ghost use Rattle.asm_statements.specs.Tokens.{IsLiteral};
 
 use std::marker::Model;
 

@@ -1,11 +1,11 @@
 //! The operands of an instruction, read by the form of its mnemonic.
 ghost use Rattle.std.specs.Prelude.{◌≡◌, if◌then◌else◌, drop, Ok, Err};
-ghost use Rattle.asm_statements.specs.Operands.{no_operands, slots_of, chosen, with_comma, bare_label, slot_read, target_read, sum_read, addend_read, after_slot, after_label, operands_read};
+ghost use Rattle.asm_statements.specs.Statements.{no_operands, slots_of, chosen, with_comma, bare_label, slot_read, target_read, sum_read, addend_read, after_slot, after_label, operands_read};
 
 use crate::literal::Literal;
 use crate::mnemonic::{Link, Mnemonic};
 use crate::tokens::{
-    is_close, is_comma, is_label, is_minus, is_open, is_plus, is_word, number_of, register_at,
+    is_close, is_comma, is_label, is_minus, is_open, is_plus, number_of, register_at,
 };
 use asm_text::Token;
 use formats::Reg;
@@ -213,7 +213,7 @@ fn after_slot<'a>(slot: Slot, token: &Token, after: &'a [Token]) -> &'a [Token]
 {
     match slot {
         Slot::Target => {
-            if is_word(&token.kind) {
+            if token.kind.is_word() {
                 after_label(after)
             } else {
                 after

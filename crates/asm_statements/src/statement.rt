@@ -6,7 +6,7 @@ use crate::literal::Literal;
 use crate::mnemonic::{Directive, Mnemonic};
 use crate::names::{directive_named, mnemonic_named};
 use crate::operands::{Operands, chosen, read_operands};
-use crate::tokens::{is_colon, is_comma, is_label, is_string, is_word, number_of, text_at};
+use crate::tokens::{is_colon, is_comma, is_label, is_string, number_of, text_at};
 use asm_text::Token;
 
 /// Where the name of a label stands in the source.
@@ -70,7 +70,7 @@ pub fn read_statement(
     let [first, rest @ ..] = tokens else {
         return Ok(Statement::Nothing);
     };
-    if !is_word(&first.kind) {
+    if !first.kind.is_word() {
         return Err(first.start);
     }
     let word = text_at(source, first.start, first.end);

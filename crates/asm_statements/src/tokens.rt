@@ -1,7 +1,7 @@
 //! What the tokens of a line are.
 ghost use Rattle.std.specs.Prelude.{◌≡◌};
 ghost use Rattle.asm_text.specs.declared.token.TokenKind.TheVariants.{Comma, Colon, Open, Close, Plus, Minus};
-ghost use Rattle.asm_statements.specs.Tokens.{text_at, is_word, is_mark, literal_of, number_of, is_string, is_name, is_label, register_at};
+ghost use Rattle.asm_statements.specs.Tokens.{text_at, is_mark, literal_of, number_of, is_string, is_name, is_label, register_at};
 
 use crate::literal::Literal;
 use crate::names::register_named;
@@ -20,12 +20,6 @@ pub fn text_at(source: &[u8], start: usize, end: usize) -> &[u8]
     } else {
         &[]
     }
-}
-
-pub fn is_word(kind: &TokenKind) -> bool
-    ensures { result ≡ is_word kind.now }
-{
-    matches!(kind, TokenKind::Word)
 }
 
 pub fn is_comma(kind: &TokenKind) -> bool
@@ -105,14 +99,14 @@ fn is_name(word: &[u8]) -> bool
 pub fn is_label(source: &[u8], token: &Token) -> bool
     ensures { result ≡ is_label source.now token.now }
 {
-    is_word(&token.kind) && is_name(text_at(source, token.start, token.end))
+    token.kind.is_word() && is_name(text_at(source, token.start, token.end))
 }
 
 /// The register that a token names, if it names one.
 pub fn register_at(source: &[u8], token: &Token) -> Option<Reg>
     ensures { result ≡ register_at source.now token.now }
 {
-    if is_word(&token.kind) {
+    if token.kind.is_word() {
         register_named(text_at(source, token.start, token.end))
     } else {
         None

@@ -1,12 +1,9 @@
 -- The bytes of a number.
 use Rattle.std.proofs.Common.{◌≡◌, ℕ, ◌+◌, ◌*◌, ◌<◌, ◌≤◌, Bool, true, false, not, eqb, ltb, ◌&&◌, ◌||◌, List, [], ◌∷◌, Some, None, ℤ, ap, ⊎_elim, arith}
-use Rattle.std.specs.Char.{is_ascii_digit, digit_value}
-use Rattle.std.specs.List.{AllPass}
-use Rattle.std.proofs.lemmas.Bool.{eqb-true, ltb-true, and_parts}
-use Rattle.std.proofs.lemmas.Bool.Decides.{nat_tests}
+use Rattle.std.specs.{Char.is_ascii_digit, Char.digit_value, List.AllPass}
+use Rattle.std.proofs.{lemmas.Bool.eqb-true, lemmas.Bool.ltb-true, lemmas.Bool.and_parts, lemmas.Bool.Decides.nat_tests}
 use Rattle.std.proofs.lemmas.List.Elements.{All-nil, All-cons, All-tail}
-use Rattle.asm_text.specs.Letters.{is_name_byte, begins_word}
-use Rattle.asm_text.specs.Numbers.{digits_value, some_digits, magnitude, above_zero, below_zero, number_value}
+use Rattle.asm_text.specs.Letters.{is_name_byte, begins_word, digits_value, some_digits, magnitude, above_zero, below_zero, number_value}
 use Rattle.asm_text.proofs.Choices.{chosen, then_some}
 
 -- a digit to base 16 goes on a word, and one to base 10 is a decimal digit

@@ -2,12 +2,9 @@
 use Rattle.std.proofs.Common.{◌≡◌, ℕ, ◌≤◌, true, eqb, List, [], ◌++◌, length, take, drop, refl, ap, subst, ◌∙◌, arith, length-append}
 use Rattle.std.specs.Prelude.{nat_eq}
 use Rattle.std.specs.List.{prefix_len, starts_with}
-use Rattle.std.proofs.Math.Seq.{take-append_seam, drop-append_seam}
+use Rattle.std.proofs.{Math.Seq.take-append_seam, Math.Seq.drop-append_seam, lemmas.Bool.Decides.Decides-eqb, lemmas.Slice.Eq.starts_is}
 use Rattle.std.proofs.lemmas.Bool.{eqb-true, eq-eqb, and_parts, and_from}
-use Rattle.std.proofs.lemmas.Bool.Decides.{Decides-eqb}
-use Rattle.std.proofs.lemmas.Slice.Eq.{starts_is}
-use Rattle.asm_text.specs.Letters.{is_name_byte, fence_i, IsRunEnd}
-use Rattle.asm_text.specs.Scan.{begins_fence_i}
+use Rattle.asm_text.specs.{Letters.is_name_byte, Letters.fence_i, Letters.IsRunEnd, Scan.begins_fence_i}
 use Rattle.asm_text.proofs.Names.{run_ends, run_is}
 
 -- where it is found: its bytes come first, there are as many, it stands whole, and the rest comes after it

@@ -1,19 +1,10 @@
 -- Every source has a reading.
 use Rattle.std.proofs.Common.{◌≡◌, ℕ, zero, suc, ◌+◌, ◌-◌, ◌<◌, ◌≤◌, Bool, eqb, ◌&&◌, List, [], ◌∷◌, ◌++◌, length, take, drop, ◌⊎◌, inl, inr, Option, Some, None, refl, ap, arith, length-drop, ⊎_elim}
 use Rattle.std.specs.List.{prefix_len}
-use Rattle.std.proofs.lemmas.Bool.{cases_eq}
-use Rattle.std.proofs.lemmas.List.{length-take-le}
-use Rattle.std.proofs.lemmas.List.Sums.{prefix_len-le-length}
-use Rattle.asm_text.specs.Letters.{is_blank, goes_on}
-use Rattle.asm_text.specs.Tokens.{Place, line_start, is_word}
-use Rattle.asm_text.specs.Text.{IsLine, IsLineFault, IsText, FirstFault}
-use Rattle.asm_text.specs.Scan.{token_at}
-use Rattle.asm_text.specs.declared.token.TokenKind.{TokenKind}
-use Rattle.asm_text.specs.declared.token.Token.{Token}
-use Rattle.asm_text.specs.declared.token.Line.{Line}
-use Rattle.asm_text.proofs.Finding.{found}
-use Rattle.asm_text.proofs.Reading.{IsRead, line_read, line_fault, read_further}
-use Rattle.asm_text.proofs.Slices.{some_text}
+use Rattle.std.proofs.{lemmas.Bool.cases_eq, lemmas.List.length-take-le, lemmas.List.Sums.prefix_len-le-length}
+use Rattle.asm_text.specs.{Letters.is_blank, Letters.goes_on, Text.Place, Text.line_start, Text.is_word, Text.IsLine, Text.IsLineFault, Text.IsText, Text.FirstFault, Scan.token_at}
+use Rattle.asm_text.specs.{declared.token.TokenKind.TokenKind, declared.token.Token.Token, declared.token.Line.Line}
+use Rattle.asm_text.proofs.{Finding.found, Slices.some_text, Reading.IsRead, Reading.line_read, Reading.line_fault, Reading.read_further}
 use Rattle.asm_text.proofs.Sources.{AreRead, first_fault, text_read, lines_further}
 
 -- a line has its tokens, or a first fault

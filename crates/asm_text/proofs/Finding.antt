@@ -1,26 +1,15 @@
 -- What is computed from the left is what the forms say.
 use Rattle.std.proofs.Common.{◌≡◌, ℕ, suc, ◌+◌, ◌≤◌, Bool, true, false, not, cond, eqb, leb, ◌&&◌, ◌||◌, List, [], ◌∷◌, ◌++◌, length, take, drop, Some, None, ℤ, refl, sym, ap, subst, ◌∙◌, ⊎_elim, inl, inr, arith, length-append, append_assoc}
-use Rattle.std.specs.Char.{is_ascii_digit}
-use Rattle.std.specs.List.{prefix_len, flat_map}
-use Rattle.std.specs.Option.{option_map}
-use Rattle.std.proofs.Math.Seq.{take-append_seam}
+use Rattle.std.specs.{Char.is_ascii_digit, List.prefix_len, List.flat_map, Option.option_map}
+use Rattle.std.proofs.{Math.Seq.take-append_seam, lemmas.Bool.Decides.nat_tests, lemmas.List.length-take-le, lemmas.List.take-append-drop, lemmas.Option.cond_some}
 use Rattle.std.proofs.lemmas.Bool.{eqb-true, leb-true, le-leb, and_parts, cond-true, cond-false}
-use Rattle.std.proofs.lemmas.Bool.Decides.{nat_tests}
-use Rattle.std.proofs.lemmas.List.{length-take-le, take-append-drop}
 use Rattle.std.proofs.lemmas.List.Sums.{prefix_len-le-length}
-use Rattle.std.proofs.lemmas.Option.{cond_some}
-use Rattle.asm_text.specs.Letters.{is_name_byte, begins_word, fence_i, IsRun, IsRunEnd}
-use Rattle.asm_text.specs.Numbers.{number_value}
-use Rattle.asm_text.specs.Strings.{spelling}
-use Rattle.asm_text.specs.Tokens.{IsToken, IsNoPart}
+use Rattle.asm_text.specs.{Letters.is_name_byte, Letters.begins_word, Letters.fence_i, Letters.IsRun, Letters.IsRunEnd, Letters.number_value, declared.token.TokenKind.TokenKind}
+use Rattle.asm_text.specs.Text.{spelling, IsToken, IsNoPart}
 use Rattle.asm_text.specs.Scan.{run_len, begins_fence_i, word_len, word_of, number_of, string_of, contents_from, mark_of, token_at}
-use Rattle.asm_text.specs.declared.token.TokenKind.{TokenKind}
 use Rattle.asm_text.specs.declared.token.TokenKind.TheVariants.{Word, Number, Text, Comma, Colon, Open, Close, Plus, Minus}
-use Rattle.asm_text.proofs.Choices.{chosen, mapped}
-use Rattle.asm_text.proofs.Names.{prefix_passes, run_ends, run_is}
-use Rattle.asm_text.proofs.Dotted.{whole_here, is_whole}
+use Rattle.asm_text.proofs.{Choices.chosen, Choices.mapped, Names.prefix_passes, Names.run_ends, Names.run_is, Dotted.whole_here, Dotted.is_whole, Digits.number_names}
 use Rattle.asm_text.proofs.Quotes.{contents_found, contents_only}
-use Rattle.asm_text.proofs.Digits.{number_names}
 
 -- a token of this kind and length comes first
 pub record IsFound (after_word : Bool) (bytes : List ℕ) (kind : TokenKind) (len : ℕ) : Type 0 where

@@ -1,11 +1,8 @@
 -- The value of digits, digit by digit.
 use Rattle.std.proofs.Common.{◌≡◌, ℕ, ◌+◌, ◌*◌, ◌^◌, ◌<◌, ◌≤◌, Bool, true, false, cond, ltb, List, [], ◌∷◌, length, get_or, drop, None, refl, ap, arith}
-use Rattle.std.proofs.lemmas.List.{drop_more}
-use Rattle.std.proofs.lemmas.Bool.Decides.{nat_tests}
-use Rattle.std.proofs.Math.Nat.{mul-le-mul_right}
+use Rattle.std.proofs.{lemmas.List.drop_more, lemmas.Bool.Decides.nat_tests, Math.Nat.mul-le-mul_right}
 use Rattle.std.specs.Char.{digit_value}
-use Rattle.asm_text.specs.Numbers.{digits_value}
-use Rattle.asm_text.specs.Scan.{bounded}
+use Rattle.asm_text.specs.{Letters.digits_value, Scan.bounded}
 
 -- one digit more
 pub digits_more : (base high : ℕ) (ds : List ℕ) (i d : ℕ) → i < length ds → digits_value base high (drop i ds) ≡ cond (ltb (digit_value (get_or ds i d)) base) (digits_value base (base * high + digit_value (get_or ds i d)) (drop (i + 1) ds)) None

@@ -1,13 +1,10 @@
 -- The contents computed from the left are those that are spelled.
 use Rattle.std.proofs.Common.{◌≡◌, ℕ, ◌+◌, ◌≤◌, Bool, true, false, eqb, leb, ◌&&◌, List, [], ◌∷◌, ◌++◌, length, Option, Some, None, refl, sym, ap, subst, ◌∙◌, ⊎_elim, arith, append_assoc, length-append}
 use Rattle.std.specs.List.{AllPass, flat_map}
-use Rattle.std.proofs.lemmas.Bool.{eqb-true, eqb-false, cases_eq}
-use Rattle.std.proofs.lemmas.Bool.Decides.{nat_tests}
+use Rattle.std.proofs.{lemmas.Bool.eqb-true, lemmas.Bool.eqb-false, lemmas.Bool.cases_eq, lemmas.Bool.Decides.nat_tests}
 use Rattle.std.proofs.lemmas.List.Elements.{All-nil, All-cons, All-head, All-tail}
-use Rattle.asm_text.specs.Strings.{spelling, has_spelling}
-use Rattle.asm_text.specs.Scan.{escaped, one_more, contents_from}
-use Rattle.asm_text.proofs.Choices.{chosen, then_some}
-use Rattle.asm_text.proofs.Strings.{plain}
+use Rattle.asm_text.specs.{Text.spelling, Text.has_spelling, Scan.escaped, Scan.one_more, Scan.contents_from}
+use Rattle.asm_text.proofs.{Choices.chosen, Choices.then_some, Strings.plain}
 
 -- contents, and how many bytes they and the closing quote take, as a prefix of bytes
 pub record IsQuoted (bs : List ℕ) (f : List ℕ × ℕ) : Type 0 where

@@ -1,16 +1,10 @@
 -- A line, token by token.
 use Rattle.std.proofs.Common.{◌≡◌, ℕ, ◌+◌, ◌-◌, ◌≤◌, Bool, false, ◌&&◌, eqb, List, [], ◌∷◌, ◌++◌, length, take, drop, Some, None, refl, sym, ap, subst, ◌∙◌, arith}
 use Rattle.std.specs.List.{prefix_len, AllPass}
-use Rattle.std.proofs.lemmas.List.{take-append-drop, length-take-le, length-drop}
-use Rattle.std.proofs.lemmas.List.Sums.{prefix_len-le-length}
-use Rattle.asm_text.specs.Letters.{is_blank, IsRunEnd}
-use Rattle.asm_text.specs.Tokens.{Place, line_start, is_word, IsOverBlanks, IsOverToken, IsNext, Leads, IsEndOrComment, IsNothing}
-use Rattle.asm_text.specs.Text.{IsLine, IsLineFault}
-use Rattle.asm_text.specs.Scan.{token_at, GoesOn}
-use Rattle.asm_text.specs.declared.token.TokenKind.{TokenKind}
-use Rattle.asm_text.specs.declared.token.Token.{Token}
-use Rattle.asm_text.proofs.Names.{prefix_passes, run_ends}
-use Rattle.asm_text.proofs.Finding.{found, none}
+use Rattle.std.proofs.{lemmas.List.take-append-drop, lemmas.List.length-take-le, lemmas.List.length-drop, lemmas.List.Sums.prefix_len-le-length}
+use Rattle.asm_text.specs.{Letters.is_blank, Letters.IsRunEnd, Scan.token_at, declared.token.TokenKind.TokenKind, declared.token.Token.Token}
+use Rattle.asm_text.specs.Text.{IsLine, IsLineFault, Place, line_start, is_word, IsOverBlanks, IsOverToken, IsNext, Leads, IsEndOrComment, IsNothing}
+use Rattle.asm_text.proofs.{Names.prefix_passes, Names.run_ends, Finding.found, Finding.none}
 
 -- one more step
 pub leads_further : {P X : Type 0} (Step : P → X → P → Type 0) (p : P) (xs : List X) (q : P) (x : X) (r : P) → Leads Step p xs q → Step q x r → Leads Step p (xs ++ x ∷ []) r
@@ -52,8 +46,8 @@ over_token p kind len word token word_is =
 no_blank : (bs : List ℕ) (n b : ℕ) (rest : List ℕ) → n ≡ prefix_len is_blank bs → drop n bs ≡ b ∷ rest → is_blank b ≡ false
 no_blank bs n b rest n_is prefix = subst (IsRunEnd is_blank) (ap (λ (m : ℕ). drop m bs) (sym n_is) ∙ prefix) (run_ends is_blank bs)
 
-pub no_token : (after_word : Bool) (bs : List ℕ) (n : ℕ) (here : List ℕ) → n ≡ prefix_len is_blank bs → drop n bs ≡ here → GoesOn here → token_at after_word here ≡ None → IsNothing after_word here
-no_token after_word bs n [] n_is here_is on token = on
+pub no_token : (after_word : Bool) (bs : List ℕ) (n : ℕ) (here : List ℕ) → n ≡ prefix_len is_blank bs → drop n bs ≡ here → (IsEndOrComment here → ⊥) → token_at after_word here ≡ None → IsNothing after_word here
+no_token after_word bs n [] n_is here_is on token = on tt
 no_token after_word bs n (b ∷ rest) n_is here_is on token = (no_blank bs n b rest n_is here_is, on, none after_word (b ∷ rest) token)
 
 -- the tokens lead from the line's start to this place
@@ -82,7 +76,7 @@ module _ {from : ℕ} {line : List ℕ} {tokens : List Token} {p : Place} (read 
   }
 
   -- nothing stands after the blanks
-  pub line_fault : GoesOn here → token_at directly here ≡ None → IsLineFault from line (p.at + n - from + 1)
+  pub line_fault : (IsEndOrComment here → ⊥) → token_at directly here ≡ None → IsLineFault from line (p.at + n - from + 1)
   line_fault on token = record {
     before = tokens;
     after = p;

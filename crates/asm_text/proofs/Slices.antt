@@ -1,16 +1,11 @@
 -- Where the lines and tokens of a source lie in it.
 use Rattle.std.proofs.Common.{◌≡◌, ℕ, ◌+◌, ◌-◌, ◌<◌, ◌≤◌, Bool, List, [], ◌∷◌, ◌++◌, length, take, drop, refl, sym, ap, subst, ◌∙◌, ⊎_elim, arith, append_assoc, length-append}
 use Rattle.std.specs.Prelude.{All, slice_range}
-use Rattle.std.proofs.lemmas.List.{append-nil}
-use Rattle.std.proofs.Math.Seq.{take-append_seam, drop-append_seam}
+use Rattle.std.proofs.{lemmas.List.append-nil, Math.Seq.take-append_seam, Math.Seq.drop-append_seam}
 use Rattle.std.proofs.lemmas.List.Elements.{All-nil, All-cons, All-push}
-use Rattle.asm_text.specs.Tokens.{Place, line_start, IsForm, IsNext, Leads}
-use Rattle.asm_text.specs.Text.{IsLine, LineStart, source_start, IsNextLine, IsText}
-use Rattle.asm_text.specs.Spans.{IsSlice, HasSlices}
-use Rattle.asm_text.specs.declared.token.TokenKind.{TokenKind}
+use Rattle.asm_text.specs.Text.{Place, line_start, IsForm, IsNext, Leads, IsLine, LineStart, source_start, IsNextLine, IsText, IsSlice, HasSlices}
+use Rattle.asm_text.specs.{declared.token.TokenKind.TokenKind, declared.token.Token.Token, declared.token.Line.Line}
 use Rattle.asm_text.specs.declared.token.TokenKind.TheVariants.{Word, Number, Text, Comma, Colon, Open, Close, Plus, Minus}
-use Rattle.asm_text.specs.declared.token.Token.{Token}
-use Rattle.asm_text.specs.declared.token.Line.{Line}
 
 -- a form has at least one byte
 pub some_text : (w : Bool) (kind : TokenKind) (text : List ℕ) → IsForm w kind text → 0 < length text

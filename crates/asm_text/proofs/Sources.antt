@@ -1,18 +1,11 @@
 -- A source, line by line.
 use Rattle.std.proofs.Common.{◌≡◌, ℕ, ◌+◌, ◌-◌, ◌<◌, ◌≤◌, Bool, true, false, not, eqb, List, [], ◌∷◌, ◌++◌, length, take, drop, get_or, refl, sym, ap, subst, ◌∙◌, arith, length-append}
 use Rattle.std.specs.List.{prefix_len, AllPass}
-use Rattle.std.proofs.lemmas.Bool.{eqb-true}
-use Rattle.std.proofs.lemmas.List.{take-append-drop, append-nil, length-drop}
-use Rattle.std.proofs.Math.Seq.{take-length}
-use Rattle.asm_text.specs.Letters.{goes_on, IsRunEnd}
-use Rattle.asm_text.specs.Tokens.{Leads}
-use Rattle.asm_text.specs.Text.{IsLine, IsLineFault, LineStart, source_start, IsNextLine, IsText, FirstFault}
-use Rattle.asm_text.specs.Faults.{StandsBy}
-use Rattle.asm_text.specs.declared.fault.Cause.{Cause}
+use Rattle.std.proofs.{lemmas.Bool.eqb-true, lemmas.List.take-append-drop, lemmas.List.append-nil, lemmas.List.length-drop, Math.Seq.take-length}
+use Rattle.asm_text.specs.{Letters.goes_on, Letters.IsRunEnd, Faults.StandsBy, declared.fault.Cause.Cause, declared.token.Line.Line}
+use Rattle.asm_text.specs.Text.{Leads, IsLine, IsLineFault, LineStart, source_start, IsNextLine, IsText, FirstFault}
 use Rattle.asm_text.specs.declared.fault.Cause.TheVariants.{Syntax, OutOfMemory}
-use Rattle.asm_text.specs.declared.token.Line.{Line}
-use Rattle.asm_text.proofs.Names.{prefix_passes, run_ends}
-use Rattle.asm_text.proofs.Reading.{leads_further}
+use Rattle.asm_text.proofs.{Names.prefix_passes, Names.run_ends, Reading.leads_further}
 
 -- the lines so far lead from the source's start to here
 pub record AreRead (source : List ℕ) (lines : List Line) (from : ℕ) (rest : List ℕ) : Type 0 where

@@ -1,19 +1,12 @@
 -- A source has one reading.
 use Rattle.std.proofs.Common.{◌≡◌, ℕ, ◌+◌, Bool, true, false, eqb, ◌&&◌, List, [], ◌∷◌, ◌++◌, length, take, drop, Some, None, refl, sym, ap, subst, ◌∙◌, arith, ⊎_elim}
 use Rattle.std.specs.List.{prefix_len, AllPass}
-use Rattle.std.proofs.Math.Seq.{take-append_seam, drop-append_seam}
-use Rattle.std.proofs.lemmas.Bool.{cases_eq}
-use Rattle.std.proofs.lemmas.Bool.Decides.{nat_tests}
+use Rattle.std.proofs.{Math.Seq.take-append_seam, Math.Seq.drop-append_seam, lemmas.Bool.cases_eq, lemmas.Bool.Decides.nat_tests}
 use Rattle.std.proofs.lemmas.List.{append-nil, take-append-drop}
-use Rattle.asm_text.specs.Letters.{is_blank, goes_on, IsRunEnd}
-use Rattle.asm_text.specs.Tokens.{Place, line_start, is_word, IsOverBlanks, IsNext, Leads, IsEndOrComment, IsNothing}
-use Rattle.asm_text.specs.Text.{IsLine, IsLineFault, LineStart, source_start, IsNextLine, IsText, FirstFault}
-use Rattle.asm_text.specs.Scan.{token_at}
-use Rattle.asm_text.specs.declared.token.TokenKind.{TokenKind}
-use Rattle.asm_text.specs.declared.token.Token.{Token}
+use Rattle.asm_text.specs.{Letters.is_blank, Letters.goes_on, Letters.IsRunEnd, Scan.token_at, declared.token.TokenKind.TokenKind, declared.token.Token.Token}
+use Rattle.asm_text.specs.Text.{Place, line_start, is_word, IsOverBlanks, IsNext, Leads, IsEndOrComment, IsNothing, IsLine, IsLineFault, LineStart, source_start, IsNextLine, IsText, FirstFault}
 use Rattle.asm_text.specs.declared.token.Line.{Line}
-use Rattle.asm_text.proofs.Names.{run_is}
-use Rattle.asm_text.proofs.Finding.{found, only}
+use Rattle.asm_text.proofs.{Names.run_is, Finding.found, Finding.only}
 
 -- where each step has one outcome, there is one way to where no step goes on
 same_way : {P X : Type 0} (Step : P → X → P → Type 0) (one : (p : P) (x : X) (q : P) (y : X) (r : P) → Step p x q → Step p y r → (x ≡ y) × (q ≡ r))

@@ -1,14 +1,11 @@
 -- What a fault says.
 use Rattle.std.specs.Prelude.{◌≡◌, ℕ}
-use Rattle.asm_text.specs.declared.fault.Cause.{Cause}
-use Rattle.asm_text.specs.declared.fault.Cause.TheVariants.{Syntax, OutOfMemory}
-use Rattle.asm_text.specs.declared.fault.TextFault.{TextFault}
+use Rattle.asm_text.specs.{declared.fault.Cause.Cause, declared.fault.Cause.TheVariants.Syntax, declared.fault.Cause.TheVariants.OutOfMemory, declared.fault.TextFault.TextFault}
 
 abbrev pub number_of : Cause → ℕ
 number_of Syntax = 1
 number_of OutOfMemory = 2
 
--- want of memory stands at 1:1
 abbrev pub out_of_memory : TextFault
 out_of_memory = record { why = OutOfMemory; line = 1; column = 1 }
 

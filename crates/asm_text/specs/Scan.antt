@@ -1,19 +1,13 @@
 -- What begins a list of bytes, computed from the left. Nothing public speaks of it: the lemmas join it to the forms.
-use Rattle.std.specs.Prelude.{ℕ, suc, ◌≢◌, ◌+◌, ◌&&◌, ◌||◌, ◌==◌, ◌^◌, Bool, true, false, not, nat_eq, nat_lt, nat_le, if◌then◌else◌, List, [], ◌∷◌, ◌++◌, Option, Some, None, length, take, drop}
-use Rattle.std.specs.Char.{is_ascii_digit}
-use Rattle.std.specs.List.{prefix_len, starts_with}
-use Rattle.std.specs.Option.{option_map, option_and_then}
-use Rattle.asm_text.specs.Letters.{is_name_byte, begins_word, fence_i}
-use Rattle.asm_text.specs.Numbers.{number_value}
-use Rattle.asm_text.specs.declared.token.TokenKind.{TokenKind}
-use Rattle.asm_text.specs.declared.token.TokenKind.TheVariants.{Word, Number, Text, Comma, Colon, Open, Close, Plus, Minus}
+use Rattle.std.specs.Prelude.{ℕ, suc, ◌+◌, ◌&&◌, ◌||◌, ◌==◌, ◌^◌, Bool, true, false, not, nat_eq, nat_lt, nat_le, if◌then◌else◌, List, [], ◌∷◌, ◌++◌, Option, Some, None, length, take, drop}
+use Rattle.std.specs.{Char.is_ascii_digit, List.prefix_len, List.starts_with, Option.option_map, Option.option_and_then}
+use Rattle.asm_text.specs.{Letters.is_name_byte, Letters.begins_word, Letters.fence_i, Letters.number_value, declared.token.TokenKind.TokenKind}
 
 -- a number below 2^32
 abbrev pub bounded : Option ℕ → Option ℕ
 bounded None = None
 bounded (Some m) = if nat_lt m (2 ^ 32) then Some m else None
 
--- what an escape stands for
 abbrev pub escaped : ℕ → Option ℕ
 escaped b =
     if b == 110 then Some 10
@@ -47,27 +41,26 @@ run_len (b ∷ bs) = suc (prefix_len is_name_byte bs)
 abbrev pub begins_fence_i : List ℕ → Bool
 begins_fence_i bytes = starts_with nat_eq bytes fence_i && (prefix_len is_name_byte (drop 7 bytes) == 0)
 
--- how many bytes a word takes that comes first
 abbrev pub word_len : List ℕ → ℕ
 word_len bytes = if begins_fence_i bytes then 7 else run_len bytes
 
 abbrev pub word_of : ℕ → Option (TokenKind × ℕ)
-word_of len = if nat_le len 64 then Some (Word, len) else None
+word_of len = if nat_le len 64 then Some (TokenKind.Word, len) else None
 
 abbrev pub number_of : List ℕ → Option (TokenKind × ℕ)
-number_of text = option_map (λ n. (Number n, length text)) (number_value text)
+number_of text = option_map (λ n. (TokenKind.Number n, length text)) (number_value text)
 
 abbrev pub string_of : Option (List ℕ × ℕ) → Option (TokenKind × ℕ)
-string_of found = option_map (λ f. (Text f.0, 1 + f.1)) found
+string_of found = option_map (λ f. (TokenKind.Text f.0, 1 + f.1)) found
 
 abbrev pub mark_of : Bool → ℕ → Option TokenKind
 mark_of after_word b =
-    if b == 44 then Some Comma
-    else (if b == 58 then Some Colon
-    else (if b == 40 then Some Open
-    else (if b == 41 then Some Close
-    else (if after_word && (b == 43) then Some Plus
-    else (if after_word && (b == 45) then Some Minus
+    if b == 44 then Some TokenKind.Comma
+    else (if b == 58 then Some TokenKind.Colon
+    else (if b == 40 then Some TokenKind.Open
+    else (if b == 41 then Some TokenKind.Close
+    else (if after_word && (b == 43) then Some TokenKind.Plus
+    else (if after_word && (b == 45) then Some TokenKind.Minus
     else None)))))
 
 -- the kind of the token that comes first, and how many bytes it takes
@@ -78,8 +71,3 @@ token_at after_word (b ∷ bs) =
     else (if is_ascii_digit b || ((b == 45) && not after_word) then number_of (take (run_len (b ∷ bs)) (b ∷ bs))
     else (if b == 34 then string_of (contents_from false bs)
     else option_map (λ kind. (kind, 1)) (mark_of after_word b)))
-
--- the line goes on, and not with a comment
-abbrev pub GoesOn : List ℕ → Type 0
-GoesOn [] = ⊥
-GoesOn (b ∷ bs) = b ≢ 35

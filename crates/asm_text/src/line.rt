@@ -1,9 +1,7 @@
 //! The tokens of a line.
 ghost use Rattle.std.specs.Prelude.{◌≡◌, ◌+◌, ◌<◌, ◌^◌, ◌&&◌, ◌==◌, length, MatchResult};
 ghost use Rattle.std.specs.Bool.{MatchBool};
-ghost use Rattle.asm_text.specs.Tokens.{IsEndOrComment};
-ghost use Rattle.asm_text.specs.Scan.{GoesOn};
-ghost use Rattle.asm_text.specs.Text.{IsLine, IsLineFault};
+ghost use Rattle.asm_text.specs.Text.{IsEndOrComment, IsLine, IsLineFault};
 ghost use Rattle.asm_text.specs.Faults.{Stands};
 
 use crate::fault::{Cause, TextFault};
@@ -21,7 +19,7 @@ fn still_after(word: bool, blanks: usize) -> bool
 
 /// Whether nothing or a comment is the rest of the line.
 fn is_over(rest: &[u8]) -> bool
-    ensures { MatchBool result (IsEndOrComment rest.now) (GoesOn rest.now) }
+    ensures { MatchBool result (IsEndOrComment rest.now) (IsEndOrComment rest.now → ⊥) }
 {
     match rest {
         [] => true,

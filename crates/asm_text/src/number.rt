@@ -1,6 +1,6 @@
 //! The value of a number.
 ghost use Rattle.std.specs.Prelude.{◌≡◌, ◌≤◌, ◌<◌, ◌^◌, IfSome};
-ghost use Rattle.asm_text.specs.Numbers.{digits_value, some_digits, magnitude, above_zero, below_zero, number_value};
+ghost use Rattle.asm_text.specs.Letters.{digits_value, some_digits, magnitude, above_zero, below_zero, number_value};
 ghost use Rattle.asm_text.specs.Scan.{bounded};
 
 /// One more than the greatest number.

@@ -1,7 +1,6 @@
 //! The lines of a source.
 ghost use Rattle.std.specs.Prelude.{MatchResult, IfOk, All};
-ghost use Rattle.asm_text.specs.Text.{IsText, FirstFault};
-ghost use Rattle.asm_text.specs.Spans.{HasSlices};
+ghost use Rattle.asm_text.specs.Text.{IsText, FirstFault, HasSlices};
 ghost use Rattle.asm_text.specs.Faults.{Stands};
 
 use crate::fault::TextFault;

@@ -1,6 +1,6 @@
 //! Tokens, and the lines in which they stand.
 ghost use Rattle.std.specs.Prelude.{◌≡◌, ◌≤◌, length, slice_range};
-ghost use Rattle.asm_text.specs.Tokens.{is_word};
+ghost use Rattle.asm_text.specs.Text.{is_word};
 
 use byte_list::Bytes;
 use std::marker::Model;
@@ -31,7 +31,8 @@ pub enum TokenKind {
 }
 
 impl TokenKind {
-    pub(crate) fn is_word(&self) -> bool
+    /// Whether it is a word.
+    pub fn is_word(&self) -> bool
         ensures { result ≡ is_word self.now }
     {
         match self {

@@ -2,21 +2,14 @@
 use Rattle.std.proofs.Common.{◌≡◌, ◌≢◌, ℕ, ◌+◌, ◌*◌, ◌≤◌, List, [], ◌∷◌, length, Result, Ok, Err, refl, subst, arith}
 use Rattle.std.proofs.lemmas.Bool.Decides.{nat_tests}
 use Rattle.machine_model.specs.Images.{Program, bytes_of_words}
-use Rattle.asm_text.specs.Text.{IsText}
-use Rattle.asm_text.specs.declared.token.Line.{Line}
-use Rattle.asm_statements.specs.Steps.{and_then}
-use Rattle.assembler.specs.Faults.{out_of_memory}
-use Rattle.assembler.specs.Layout.{Laid, counted, start_layout, all_placed}
-use Rattle.assembler.specs.Filling.{Contents, Scope, all_held}
-use Rattle.assembler.specs.Assembly.{pages, scope_of, entry_of, Assembled, assembled, assembly, words_of, rows_from, source_limit, FaultOf, in_lines}
-use Rattle.assembler.specs.Listed.{AreListed, IsListedIn}
-use Rattle.assembler.specs.declared.fault.AsmFault.{AsmFault}
-use Rattle.assembler.specs.declared.filling.Cell.{Cell}
-use Rattle.assembler.specs.declared.listing.ListingRow.{ListingRow}
+use Rattle.asm_text.specs.{Text.IsText, declared.token.Line.Line}
+use Rattle.asm_statements.specs.Tokens.{and_then}
+use Rattle.assembler.specs.{Faults.out_of_memory, Layout.Laid, Layout.counted, Layout.start_layout, Layout.all_placed, Layout.Contents, Layout.Scope, Layout.all_held}
+use Rattle.assembler.specs.Assembly.{pages, scope_of, entry_of, Assembled, image_of, assembly, words_of, rows_from, source_limit, FaultOf, in_lines}
+use Rattle.assembler.specs.{Sections.AreListed, Sections.IsListedFirst, declared.fault.AsmFault.AsmFault, declared.filling.Cell.Cell, declared.listing.ListingRow.ListingRow}
 use Rattle.assembler.specs.declared.layout.Position.{Position}
 use Rattle.asm_statements.proofs.Stepping.{and_then-ok}
-use Rattle.assembler.proofs.Sizes.{IsMeasured}
-use Rattle.assembler.proofs.Pieces.{lines-laid, measured-all}
+use Rattle.assembler.proofs.{Sizes.IsMeasured, Pieces.lines-laid, Pieces.measured-all}
 
 fitting : (w len : ℕ) → w ≡ counted len → w ≤ 245760 → len ≡ w
 fitting w len e small = omega arith
@@ -36,6 +29,9 @@ entry-fits l entry is = grind (arith, nat_tests)
 
 pub same_assembled : (a b : Assembled) → ◌≡◌ {A = Result Assembled AsmFault} (Ok a) (Ok b) → a ≡ b
 same_assembled a b is = cc
+
+abbrev assembled : ℕ → Contents → Assembled
+assembled entry c = record { image = image_of entry c; listing = rows_from 65536 c.cells }
 
 -- what an image and a listing show
 pub record IsAssembly (source : List ℕ) (lines : List Line) (a : Assembled) : Type 0 where
@@ -89,7 +85,7 @@ listing-of at [] = refl
 listing-of at (c ∷ cells) = (bytes_of_words (words_of cells), refl, refl, listing-of (at + 4) cells)
 
 -- what the lines come to is listed
-pub listed-made : (source : List ℕ) (lines : List Line) (image : Program) (listing : List ListingRow) → assembly source lines ≡ Ok (record { image = image; listing = listing }) → IsListedIn image listing
+pub listed-made : (source : List ℕ) (lines : List Line) (image : Program) (listing : List ListingRow) → assembly source lines ≡ Ok (record { image = image; listing = listing }) → IsListedFirst image.segments listing
 listed-made source lines image listing is =
     let a : IsAssembly source lines (record { image = image; listing = listing }) = assembly-is source lines (record { image = image; listing = listing }) is in
-    subst (λ (x : Assembled). IsListedIn x.image x.listing) a.made (listing-of 65536 a.contents.cells)
+    subst (λ (x : Assembled). IsListedFirst x.image.segments x.listing) a.made (listing-of 65536 a.contents.cells)

@@ -1,41 +1,26 @@
 -- The image of a source, line by line.
 use Rattle.std.proofs.Common.{ℕ, ◌≡◌, ◌+◌, ◌*◌, ◌≤◌, Bool, true, false, List, [], ◌∷◌, ◌++◌, length, Result, Ok, Option, Some, refl, sym, ap, ◌∙◌, subst, arith, append_assoc, append-nil, length-append}
-use Rattle.std.specs.Prelude.{if◌then◌else◌}
-use Rattle.std.specs.Option.{option_map}
-use Rattle.std.specs.FinMap.{get}
+use Rattle.std.specs.Prelude.{if◌then◌else◌, map}
+use Rattle.std.specs.{Option.option_map, FinMap.get}
 use Rattle.machine_model.specs.Images.{Program}
-use Rattle.asm_text.specs.Tokens.{Leads}
-use Rattle.asm_text.specs.Text.{IsText}
-use Rattle.asm_text.specs.declared.token.Token.{Token}
-use Rattle.asm_text.specs.declared.token.Line.{Line}
-use Rattle.asm_statements.specs.Tokens.{text_at}
-use Rattle.asm_statements.specs.Statements.{label_read}
-use Rattle.assembler.specs.Labels.{SpotsByName}
-use Rattle.assembler.specs.Layout.{Laid, counted, start_layout, all_placed, after, spot_of, advanced, with_words, with_bytes, space_checked}
-use Rattle.assembler.specs.Filling.{Contents, Scope, nothing, joined, address_of, held, all_held}
+use Rattle.asm_text.specs.{Text.Leads, Text.IsText, declared.token.Token.Token, declared.token.Line.Line}
+use Rattle.asm_statements.specs.{Tokens.text_at, Statements.label_read, declared.statement.Label.Label, declared.statement.Statement.Statement}
+use Rattle.assembler.specs.{Labels.SpotsByName, declared.layout.Position.Position, declared.layout.Piece.Piece, declared.labels.Spot.Spot, declared.listing.ListingRow.ListingRow}
+use Rattle.assembler.specs.Layout.{Laid, counted, start_layout, all_placed, after, spot_of, advanced, with_bytes, space_checked, Contents, Scope, nothing, joined, address_of, held, all_held}
 use Rattle.assembler.specs.Assembly.{pages, data_base, scope_of, Assembled, Assembles, image_of, text_segment, data_segments}
-use Rattle.assembler.specs.Sections.{Part, pieces_of, section_after, AreIn, text_of, data_of, data_begins, address_after, HoldsBytes, IsByLines}
-use Rattle.assembler.specs.declared.layout.Position.{Position}
-use Rattle.assembler.specs.declared.layout.Piece.{Piece}
-use Rattle.assembler.specs.declared.labels.Spot.{Spot}
-use Rattle.asm_statements.specs.declared.statement.Label.{Label}
-use Rattle.asm_statements.specs.declared.statement.Statement.{Statement}
+use Rattle.assembler.specs.Sections.{Part, section_after, AreIn, text_of, data_of, data_begins, address_after, HoldsBytes, IsByLines}
 use Rattle.asm_statements.specs.declared.statement.Statement.TheVariants as statement
-use Rattle.assembler.specs.declared.listing.ListingRow.{ListingRow}
 use Rattle.asm_statements.proofs.Registers.{statement-known}
-use Rattle.assembler.proofs.Profiles.{text_length}
-use Rattle.assembler.proofs.StatementBytes.{text_bytes, bytes-append, IsHolding, statement-holding}
-use Rattle.assembler.proofs.LabelPlaces.{all-stay, label-found}
-use Rattle.assembler.proofs.Sizes.{IsMeasured, measured-statement, same_contents}
-use Rattle.assembler.proofs.Pieces.{IsPlaced, IsHeld, held-is, AreLaid, lines-laid, joined_assoc}
-use Rattle.assembler.proofs.Assemblies.{IsAssembly, assembly-is}
+use Rattle.assembler.proofs.{Profiles.text_length, StatementBytes.text_bytes, StatementBytes.bytes-append, StatementBytes.IsHolding, StatementBytes.statement-holding}
+use Rattle.assembler.proofs.{LabelPlaces.all-stay, LabelPlaces.label-found, Sizes.IsMeasured, Sizes.measured-statement, Sizes.same_contents}
+use Rattle.assembler.proofs.{Pieces.IsPlaced, Pieces.IsHeld, Pieces.held-is, Pieces.AreLaid, Pieces.lines-laid, Pieces.joined_assoc, Assemblies.IsAssembly, Assemblies.assembly-is}
 
 -- ---- sections
 
 section-advanced : (p : Position) (n : ℕ) → (advanced p n).in_data ≡ p.in_data
 section-advanced p n = by_section p.in_data refl
   where
-    by_section : (b : Bool) → p.in_data ≡ b → (if b then with_bytes p n else with_words p n).in_data ≡ p.in_data
+    by_section : (b : Bool) → p.in_data ≡ b → (if b then with_bytes p n else record p { words = counted (p.words + n) }).in_data ≡ p.in_data
     by_section true is = refl
     by_section false is = refl
 
@@ -76,7 +61,7 @@ record IsStep (source : List ℕ) (scope : Scope) (a : Reached) (p : Part) (b : 
 
 record HasParts (source : List ℕ) (scope : Scope) (ps : List Piece) (a b : Reached) : Type 0 where
   parts : List Part
-  each : pieces_of parts ≡ ps
+  each : map (λ (p : Part). p.piece) parts ≡ ps
   steps : Leads (IsStep source scope) a parts b
 
 step-of : (source : List ℕ) (scope : Scope) (p : Piece) (l m : Laid) (c d : Contents) → scope.source ≡ source → IsPlaced source l p m → (h : IsHolding scope p.line p.position p.statement d) → held scope p.line p.position p.statement ≡ Ok d
@@ -135,7 +120,7 @@ module _ (source : List ℕ) (scope : Scope) where
       let step : IsStep source scope a p steps.0 = steps.1 in
       steps-measured steps.0 ps b (step.measured m) steps.2
 
-  steps-placed : (a : Reached) (ps : List Part) (b : Reached) → Leads (IsStep source scope) a ps b → Leads (IsPlaced source) a.laid (pieces_of ps) b.laid
+  steps-placed : (a : Reached) (ps : List Part) (b : Reached) → Leads (IsStep source scope) a ps b → Leads (IsPlaced source) a.laid (map (λ (p : Part). p.piece) ps) b.laid
   steps-placed a [] b steps = ap (λ (x : Reached). x.laid) steps
   steps-placed a (p ∷ ps) b steps =
       let step : IsStep source scope a p steps.0 = steps.1 in
@@ -229,7 +214,7 @@ module _ (source : List ℕ) (scope : Scope) (parts : List Part) (b : Reached) (
   part-label : (label : Label) (rest : List Token) → label_read source p.piece.line.tokens ≡ Ok (Some label, rest) → get b.laid.labels (text_at source label.start label.end) ≡ Some (spot_of between.begin.laid.position)
   part-label label rest read =
       let step : IsPlaced source between.begin.laid p.piece between.end.laid = between.here.placed in
-      all-stay source (pieces_of after) between.end.laid b.laid (steps-placed source scope between.end after b between.back) (text_at source label.start label.end) (spot_of between.begin.laid.position)
+      all-stay source (map (λ (p : Part). p.piece) after) between.end.laid b.laid (steps-placed source scope between.end after b between.back) (text_at source label.start label.end) (spot_of between.begin.laid.position)
       (label-found source p.piece label between.begin.laid between.end.laid step (same_label source p.piece step.label (Some label) step.rest rest step.prefix read))
 
 -- ---- the whole

@@ -1,15 +1,10 @@
 -- The finite map of labels, and the tree that holds them.
 use Rattle.std.proofs.Common.{ℕ, ◌≡◌, List, [], ◌∷◌, Some, refl, sym, ap, ◌∙◌, cond}
-use Rattle.std.specs.Cmp.Lexicographic.{slice_cmp}
-use Rattle.std.specs.Cmp.{eq_by_cmp_equiv}
-use Rattle.std.specs.Ordering.{nat_cmp}
+use Rattle.std.specs.{Cmp.Lexicographic.slice_cmp, Cmp.eq_by_cmp_equiv, Ordering.nat_cmp, BTreeMap.is_at, Map.lookup}
 use Rattle.std.specs.FinMap.{get, insert, find, from_entries, get-from_entries, get-insert, same_map, slice_cmp-IsAntisymmetric, nat_cmp-IsAntisymmetric}
-use Rattle.std.specs.BTreeMap.{is_at}
-use Rattle.std.specs.Map.{lookup}
 use Rattle.std.proofs.lemmas.Cmp.{nat_list_cmp_total}
 use denote.Ref.{Bor}
-use Rattle.assembler.specs.Labels.{spots_by_name}
-use Rattle.assembler.specs.declared.labels.Spot.{Spot}
+use Rattle.assembler.specs.{Labels.spots_by_name, declared.labels.Spot.Spot}
 
 -- a look-up by bytes
 find_named : (es : List (Bor (List ℕ) × Spot)) (q : List ℕ) → find (slice_cmp nat_cmp) q (spots_by_name es) ≡ lookup (is_at (λ (k : Bor (List ℕ)). slice_cmp nat_cmp q k.now)) es

@@ -1,22 +1,13 @@
 -- A label stays where it was first met.
 use Rattle.std.proofs.Common.{ℕ, ◌≡◌, Ordering, Less, Equal, Greater, Bool, true, false, cond, List, [], ◌∷◌, Result, Ok, Err, Option, Some, None, refl, sym, ap, ◌∙◌, subst}
 use Rattle.std.specs.Prelude.{is_some, if◌then◌else◌}
-use Rattle.std.specs.Cmp.Lexicographic.{slice_cmp}
-use Rattle.std.specs.Ordering.{is_eq, nat_cmp, eq_by_cmp}
+use Rattle.std.specs.{Cmp.Lexicographic.slice_cmp, Ordering.is_eq, Ordering.nat_cmp, Ordering.eq_by_cmp}
 use Rattle.std.specs.FinMap.{get, insert, get-insert, slice_cmp-IsAntisymmetric, nat_cmp-IsAntisymmetric}
 use Rattle.std.proofs.lemmas.Cmp.{nat_list_cmp_total, eq_by_cmp_equiv}
-use Rattle.asm_text.specs.Tokens.{Leads}
-use Rattle.asm_text.specs.declared.token.Line.{Line}
-use Rattle.asm_statements.specs.Tokens.{text_at}
-use Rattle.assembler.specs.Labels.{SpotsByName}
-use Rattle.assembler.specs.Faults.{fault_at}
-use Rattle.assembler.specs.Layout.{Laid, spot_of, label_declared, labelled}
-use Rattle.assembler.specs.declared.fault.AsmFault.{AsmFault}
-use Rattle.assembler.specs.declared.fault.Cause.TheVariants.{DoubleLabel}
-use Rattle.assembler.specs.declared.labels.Spot.{Spot}
-use Rattle.assembler.specs.declared.layout.Position.{Position}
-use Rattle.assembler.specs.declared.layout.Piece.{Piece}
-use Rattle.asm_statements.specs.declared.statement.Label.{Label}
+use Rattle.asm_text.specs.{Text.Leads, declared.token.Line.Line}
+use Rattle.asm_statements.specs.{Tokens.text_at, declared.statement.Label.Label}
+use Rattle.assembler.specs.{Labels.SpotsByName, Faults.fault_at, Layout.Laid, Layout.spot_of, Layout.label_declared, Layout.labelled, declared.fault.AsmFault.AsmFault}
+use Rattle.assembler.specs.{declared.fault.Cause.TheVariants.DoubleLabel, declared.labels.Spot.Spot, declared.layout.Position.Position, declared.layout.Piece.Piece}
 use Rattle.assembler.proofs.Pieces.{IsPlaced}
 
 same_labels : (a b : SpotsByName) → ◌≡◌ {A = Result SpotsByName AsmFault} (Ok a) (Ok b) → a ≡ b

@@ -5,40 +5,19 @@ use Rattle.std.specs.Option.{ok_or}
 use Rattle.std.proofs.lemmas.List.{length-map}
 use Rattle.std.proofs.lemmas.List.Elements.{All-nil, All-cons, All-head, All-tail, All-weaker}
 use Rattle.machine_model.specs.Images.{Program}
-use Rattle.asm_text.specs.Tokens.{Leads}
-use Rattle.asm_text.specs.Text.{LineStart, source_start, IsNextLine, IsText}
-use Rattle.asm_text.specs.declared.token.Token.{Token}
-use Rattle.asm_text.specs.declared.token.Line.{Line}
-use Rattle.asm_statements.specs.Steps.{and_then}
-use Rattle.asm_statements.specs.Statements.{label_read, statement_read}
-use Rattle.asm_statements.specs.Expansion.{expansion_of}
-use Rattle.assembler.specs.Faults.{at_line}
-use Rattle.assembler.specs.Labels.{SpotsByName}
-use Rattle.assembler.specs.Layout.{Laid, counted, start_layout, parsed, with_piece, all_placed}
-use Rattle.assembler.specs.Filling.{Contents, Scope, in_words, words_of_expansion, distance_of, instruction_held, held, all_held, instructions_of}
-use Rattle.assembler.specs.Assembly.{scope_of, Assembled, assembly, rows_from}
-use Rattle.assembler.specs.Sections.{lines_of}
-use Rattle.assembler.specs.Instructions.{IsInstruction, AreInstructions, IsListedInstruction, ListsInstructions}
-use Rattle.assembler.specs.declared.fault.AsmFault.{AsmFault}
-use Rattle.assembler.specs.declared.fault.Cause.TheVariants.{Range}
-use Rattle.assembler.specs.declared.layout.Position.{Position}
-use Rattle.assembler.specs.declared.layout.Piece.{Piece}
-use Rattle.asm_statements.specs.declared.mnemonic.Mnemonic.{Mnemonic}
-use Rattle.asm_statements.specs.declared.operands.Operands.{Operands}
-use Rattle.asm_statements.specs.declared.expansion.Expansion.{Expansion}
-use Rattle.asm_statements.specs.declared.expansion.Expansion.TheVariants.{One, Two}
-use Rattle.asm_statements.specs.declared.statement.Label.{Label}
-use Rattle.asm_statements.specs.declared.statement.Statement.{Statement}
+use Rattle.asm_text.specs.{Text.Leads, Text.LineStart, Text.source_start, Text.IsNextLine, Text.IsText, declared.token.Token.Token, declared.token.Line.Line}
+use Rattle.asm_statements.specs.{Tokens.and_then, Statements.label_read, Statements.statement_read, Expansion.expansion_of, Expansion.instructions_of}
+use Rattle.assembler.specs.{Faults.at_line, Labels.SpotsByName, Assembly.scope_of, Assembly.Assembled, Assembly.assembly, Assembly.rows_from, declared.fault.AsmFault.AsmFault}
+use Rattle.assembler.specs.Layout.{Laid, counted, start_layout, parsed, with_piece, all_placed, Contents, Scope, in_words, words_of_expansion, distance_of, instruction_held, held, all_held}
+use Rattle.assembler.specs.Sections.{lines_of, IsInstruction, AreInstructions, IsListedInstruction, ListsInstructions}
+use Rattle.assembler.specs.{declared.fault.Cause.TheVariants.Range, declared.layout.Position.Position, declared.layout.Piece.Piece, declared.filling.Cell.Cell}
+use Rattle.asm_statements.specs.{declared.mnemonic.Mnemonic.Mnemonic, declared.operands.Operands.Operands, declared.expansion.Expansion.Expansion, declared.statement.Label.Label}
+use Rattle.asm_statements.specs.{declared.expansion.Expansion.TheVariants.One, declared.expansion.Expansion.TheVariants.Two, declared.statement.Statement.Statement}
 use Rattle.asm_statements.specs.declared.statement.Statement.TheVariants as statement
-use Rattle.assembler.specs.declared.filling.Cell.{Cell}
 use Rattle.assembler.specs.declared.listing.ListingRow.{ListingRow}
-use Rattle.asm_statements.proofs.Stepping.{and_then-ok, ok_or-ok}
-use Rattle.assembler.proofs.Stepping.{at_line-ok}
-use Rattle.asm_statements.proofs.Registers.{HasRegisters, statement-known}
-use Rattle.asm_statements.proofs.Expansions.{AreMeant, expansion-meant}
-use Rattle.assembler.proofs.Sizes.{IsMeasured, same_contents}
+use Rattle.asm_statements.proofs.{Stepping.and_then-ok, Stepping.ok_or-ok, Registers.HasRegisters, Registers.statement-known, Expansions.AreMeant, Expansions.expansion-meant}
+use Rattle.assembler.proofs.{Stepping.at_line-ok, Sizes.IsMeasured, Sizes.same_contents, WordSizes.AreCounted, WordSizes.IsOf, WordSizes.lines-cells}
 use Rattle.assembler.proofs.Pieces.{IsPlaced, IsParted, HasSteps, AreLaid, piece_at, parsed-is, lines-steps, lines-laid, all_placed-append, held-parted, measured-all}
-use Rattle.assembler.proofs.WordSizes.{AreCounted, IsOf, lines-cells}
 use Rattle.assembler.proofs.Assemblies.{IsAssembly, assembly-is}
 
 -- ---- the lines of a source are counted from 1
@@ -81,8 +60,8 @@ cells_of line e = (in_words false line (words_of_expansion e)).cells
 
 -- the rows of these cells are the expansion's instructions
 are_instructions : (at line : ℕ) (e : Expansion) → AreMeant e → AreInstructions at line (instructions_of e) (rows_from at (cells_of line e))
-are_instructions at line (One i) m = (refl, refl, m, refl)
-are_instructions at line (Two i j) m = (refl, refl, m.0, (refl, refl, m.1, refl))
+are_instructions at line (One i) m = (refl, refl, m.1, refl)
+are_instructions at line (Two i j) m = (refl, refl, m.0.1, (refl, refl, m.1.1, refl))
 
 rows-append : (at : ℕ) (xs ys : List Cell) → rows_from at (xs ++ ys) ≡ rows_from at xs ++ rows_from (at + 4 * length xs) ys
 rows-append at [] ys = ap (λ (n : ℕ). rows_from n ys) (omega arith)

@@ -5,17 +5,10 @@ use Rattle.std.specs.FinMap.{get}
 use Rattle.std.proofs.lemmas.Bool.Decides.{nat_tests}
 use Rattle.machine_model.specs.Images.{Program, IsProfile, bytes_of_words}
 use Rattle.asm_text.specs.declared.token.Line.{Line}
-use Rattle.assembler.specs.Faults.{whole}
-use Rattle.assembler.specs.Layout.{Laid}
-use Rattle.assembler.specs.Filling.{Contents}
+use Rattle.assembler.specs.{Faults.whole, Layout.Laid, Layout.Contents, declared.fault.AsmFault.AsmFault, declared.labels.Spot.Spot, declared.listing.ListingRow.ListingRow}
 use Rattle.assembler.specs.Assembly.{pages, data_base, start_at, IsTextAddress, entry_of, words_of, text_segment, data_segments, Assembled, assembly}
-use Rattle.assembler.specs.declared.fault.AsmFault.{AsmFault}
-use Rattle.assembler.specs.declared.fault.Cause.TheVariants.{NoStart, TooLarge}
-use Rattle.assembler.specs.declared.labels.Spot.{Spot}
-use Rattle.assembler.specs.declared.listing.ListingRow.{ListingRow}
-use Rattle.assembler.specs.declared.layout.Position.{Position}
-use Rattle.assembler.proofs.Profiles.{profile-image}
-use Rattle.assembler.proofs.Assemblies.{IsAssembly, assembly-is}
+use Rattle.assembler.specs.{declared.fault.Cause.TheVariants.NoStart, declared.fault.Cause.TheVariants.TooLarge, declared.layout.Position.Position}
+use Rattle.assembler.proofs.{Profiles.profile-image, Assemblies.IsAssembly, Assemblies.assembly-is}
 
 same_number : (m n : ℕ) → ◌≡◌ {A = Result ℕ AsmFault} (Ok m) (Ok n) → m ≡ n
 same_number m n is = cc

@@ -1,22 +1,15 @@
 -- `li` and `la` load what they say.
 use Rattle.std.proofs.Common.{ℕ, ℤ, pos, negsuc, ◌+ℤ◌, ◌-ℤ◌, ◌≡◌, ◌+◌, ◌-◌, ◌*◌, ◌%◌, ◌^◌, ◌<◌, Bool, true, false, List, [], ◌∷◌, length, Option, Some, None, refl, sym, ap, ◌∙◌, arith}
 use Rattle.std.specs.Prelude.{◌==◌, if◌then◌else◌, slice_index, slice_set}
-use Rattle.std.proofs.lemmas.List.{set-set, get_or-set_same}
+use Rattle.std.proofs.{lemmas.List.set-set, lemmas.List.get_or-set_same, lemmas.Int.ints, lemmas.Int.of_z-to_z, lemmas.Bool.Decides.nat_tests}
 use Rattle.std.specs.Int.{cast_signed, w32}
-use Rattle.std.proofs.lemmas.Int.{ints, of_z-to_z}
-use Rattle.std.proofs.lemmas.Bool.Decides.{nat_tests}
-use Rattle.formats.specs.Fields.{signed}
+use Rattle.formats.specs.{Fields.signed, declared.operators.ImmediateOperator.TheVariants.Addi}
 use Rattle.formats.specs.declared.instr.Instr.TheVariants as instr
-use Rattle.formats.specs.declared.operators.ImmediateOperator.TheVariants.{Addi}
-use Rattle.machine_model.specs.Effects.{ArchitecturalState, reg, put, effect}
-use Rattle.machine_model.specs.Arithmetic.{as_word, sum}
-use Rattle.asm_statements.specs.Expansion.{immediate_of, modulo_word, low_part, high_part, li_expansion, la_expansion, fitting_expansion, long_expansion, word_count}
-use Rattle.assembler.specs.Filling.{instructions_of}
+use Rattle.machine_model.specs.{Effects.ArchitecturalState, Effects.reg, Effects.put, Effects.effect, Arithmetic.as_word, Arithmetic.sum}
+use Rattle.asm_statements.specs.Expansion.{immediate_of, modulo_word, low_part, high_part, li_expansion, la_expansion, fitting_expansion, instructions_of}
 use Rattle.assembler.specs.Loads.{carried_out, with_value}
 use Rattle.asm_statements.specs.declared.expansion.Expansion.TheVariants.{One, Two}
-use Rattle.asm_statements.proofs.Meanings.{IsHeld}
-use Rattle.asm_statements.proofs.Expansions.{low_held, high-below}
-use Rattle.asm_statements.proofs.Parts.{parts-add-up, modulo_pos, modulo_shifted}
+use Rattle.asm_statements.proofs.{Meanings.IsHeld, Expansions.low_held, Expansions.high-below, Parts.parts-add-up, Parts.modulo_pos, Parts.modulo_shifted}
 
 -- a number that fits is the one that was tested
 immediate-same : (v imm : ℤ) → immediate_of v ≡ Some imm → imm ≡ v
@@ -83,20 +76,20 @@ li-parts : (h : ArchitecturalState) (rd u : ℕ) → length h.registers ≡ 32 �
 unfolding effect
 li-parts h rd u size below small = added h rd (high_part u * 2 ^ 12) u (low_part u) size below (let parts : (high_part u * 2 ^ 12 + as_word (low_part u)) % 2 ^ 32 ≡ u % 2 ^ 32 = parts-sum u in omega arith)
 
-li-long : (h : ArchitecturalState) (rd u : ℕ) → length h.registers ≡ 32 → rd < 32 → u < 2 ^ 32 → carried_out (instructions_of (long_expansion rd u)) h ≡ Some (with_value h rd u (word_count (long_expansion rd u)))
+li-long : (h : ArchitecturalState) (rd u : ℕ) → length h.registers ≡ 32 → rd < 32 → u < 2 ^ 32 → carried_out (instructions_of (fitting_expansion rd u None)) h ≡ Some (with_value h rd u (length (instructions_of (fitting_expansion rd u None))))
 li-long h rd u size below small = by_test (u % 2 ^ 12 == 0) refl
   where
     by_test : (b : Bool) → (u % 2 ^ 12 == 0) ≡ b → carried_out (instructions_of (if b then One (instr.Lui rd (high_part u)) else Two (instr.Lui rd (high_part u)) (instr.Immediate Addi rd rd (low_part u)))) h
-        ≡ Some (with_value h rd u (word_count (if b then One (instr.Lui rd (high_part u)) else Two (instr.Lui rd (high_part u)) (instr.Immediate Addi rd rd (low_part u)))))
+        ≡ Some (with_value h rd u (length (instructions_of (if b then One (instr.Lui rd (high_part u)) else Two (instr.Lui rd (high_part u)) (instr.Immediate Addi rd rd (low_part u))))))
     by_test true is = li-whole h rd u (grind (arith, nat_tests)) small
     by_test false is = li-parts h rd u size below small
 
 li-found : (h : ArchitecturalState) (rd u : ℕ) (x : Option ℤ) → length h.registers ≡ 32 → reg h 0 ≡ 0 → rd < 32 → u < 2 ^ 32 → immediate_of (cast_signed w32 u) ≡ x
-    → carried_out (instructions_of (fitting_expansion rd u x)) h ≡ Some (with_value h rd u (word_count (fitting_expansion rd u x)))
+    → carried_out (instructions_of (fitting_expansion rd u x)) h ≡ Some (with_value h rd u (length (instructions_of (fitting_expansion rd u x))))
 li-found h rd u (Some imm) size none below small fits = li-fitting h rd u imm none small fits
 li-found h rd u None size none below small fits = li-long h rd u size below small
 
-pub li-loads : (h : ArchitecturalState) (rd u : ℕ) → length h.registers ≡ 32 → reg h 0 ≡ 0 → rd < 32 → u < 2 ^ 32 → carried_out (instructions_of (li_expansion rd u)) h ≡ Some (with_value h rd u (word_count (li_expansion rd u)))
+pub li-loads : (h : ArchitecturalState) (rd u : ℕ) → length h.registers ≡ 32 → reg h 0 ≡ 0 → rd < 32 → u < 2 ^ 32 → carried_out (instructions_of (li_expansion rd u)) h ≡ Some (with_value h rd u (length (instructions_of (li_expansion rd u))))
 li-loads h rd u size none below small = li-found h rd u (immediate_of (cast_signed w32 u)) size none below small refl
 
 far : (pc a b u at : ℕ) → (a + b) % 2 ^ 32 ≡ u % 2 ^ 32 → (pc + u) % 2 ^ 32 ≡ at → ((pc + a) % 2 ^ 32 + b) % 2 ^ 32 ≡ at

@@ -2,14 +2,10 @@
 use Rattle.std.proofs.Common.{ℕ, ◌≡◌, ◌<◌, ◌≤◌, List, length, Result, Ok, Err, ◌⊎◌, inl, inr, ⊎_elim, Bool, true, false, nat_lt, refl, sym, ap, ◌∙◌, subst, arith}
 use Rattle.std.proofs.lemmas.Bool.Decides.{nat_tests}
 use Rattle.machine_model.specs.Images.{Program}
-use Rattle.asm_text.specs.Text.{IsText, FirstFault}
-use Rattle.asm_text.specs.declared.token.Line.{Line}
-use Rattle.assembler.specs.Faults.{whole}
+use Rattle.asm_text.specs.{Text.IsText, Text.FirstFault, declared.token.Line.Line}
+use Rattle.assembler.specs.{Faults.whole, declared.fault.AsmFault.AsmFault, declared.fault.Cause.Cause, declared.listing.ListingRow.ListingRow}
 use Rattle.assembler.specs.Assembly.{Assembled, Assembles, FaultOf, too_long, in_tokens, in_lines, assembly, source_limit}
-use Rattle.assembler.specs.declared.fault.AsmFault.{AsmFault}
-use Rattle.assembler.specs.declared.fault.Cause.{Cause}
 use Rattle.assembler.specs.declared.fault.Cause.TheVariants.{Syntax, TooLarge}
-use Rattle.assembler.specs.declared.listing.ListingRow.{ListingRow}
 use Rattle.assembler.proofs.Assemblies.{same_assembled}
 
 -- what asm_text's law says

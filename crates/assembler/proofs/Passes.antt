@@ -1,13 +1,9 @@
 -- A step over the lines, and over the statements, that are left.
 use Rattle.std.proofs.Common.{ℕ, suc, ◌≡◌, ◌<◌, ◌+◌, List, ◌∷◌, length, get_or, drop, Result, Ok, Err, refl, sym, ap, ◌∙◌, arith, drop-cons}
 use Rattle.asm_text.specs.declared.token.Line.{Line}
-use Rattle.asm_statements.specs.declared.statement.Statement.{Statement}
-use Rattle.assembler.specs.Labels.{SpotsByName}
-use Rattle.assembler.specs.Layout.{Laid, parsed, with_piece, all_placed}
-use Rattle.assembler.specs.Filling.{Contents, Scope, nothing, joined, added, held, all_held}
-use Rattle.asm_statements.specs.Steps.{and_then}
-use Rattle.assembler.specs.declared.fault.AsmFault.{AsmFault}
-use Rattle.assembler.specs.declared.layout.Piece.{Piece}
+use Rattle.asm_statements.specs.{declared.statement.Statement.Statement, Tokens.and_then}
+use Rattle.assembler.specs.{Labels.SpotsByName, declared.fault.AsmFault.AsmFault, declared.layout.Piece.Piece}
+use Rattle.assembler.specs.Layout.{Laid, parsed, with_piece, all_placed, Contents, Scope, nothing, joined, added, held, all_held}
 use Rattle.asm_statements.proofs.Stepping.{and_then-err}
 use Rattle.assembler.proofs.Pieces.{joined_assoc}
 

@@ -1,24 +1,12 @@
 -- The statements of lines, one after the other, and what they come to.
 use Rattle.std.proofs.Common.{ℕ, ◌≡◌, List, [], ◌∷◌, ◌++◌, Result, Ok, Option, refl, sym, ap, ◌∙◌, subst, append_assoc, append-nil}
-use Rattle.asm_text.specs.Tokens.{Leads}
-use Rattle.asm_text.specs.declared.token.Token.{Token}
-use Rattle.asm_text.specs.declared.token.Line.{Line}
-use Rattle.asm_statements.specs.Steps.{and_then}
-use Rattle.asm_statements.specs.Statements.{label_read, statement_read}
-use Rattle.asm_statements.specs.declared.statement.Label.{Label}
-use Rattle.asm_statements.specs.declared.statement.Statement.{Statement}
-use Rattle.assembler.specs.Faults.{at_line}
-use Rattle.assembler.specs.Labels.{SpotsByName}
-use Rattle.assembler.specs.Layout.{Laid, start_layout, after, labelled, space_checked, parsed, with_piece, all_placed}
-use Rattle.assembler.specs.Filling.{Contents, Scope, nothing, joined, added, held, all_held}
-use Rattle.assembler.specs.Sections.{lines_of}
-use Rattle.assembler.specs.declared.fault.AsmFault.{AsmFault}
-use Rattle.assembler.specs.declared.fault.Cause.TheVariants.{Syntax}
-use Rattle.assembler.specs.declared.layout.Piece.{Piece}
-use Rattle.assembler.specs.declared.layout.Position.{Position}
+use Rattle.asm_text.specs.{Text.Leads, declared.token.Token.Token, declared.token.Line.Line}
+use Rattle.asm_statements.specs.{Tokens.and_then, Statements.label_read, Statements.statement_read, declared.statement.Label.Label, declared.statement.Statement.Statement}
+use Rattle.assembler.specs.{Faults.at_line, Labels.SpotsByName, Sections.lines_of, declared.fault.AsmFault.AsmFault, declared.fault.Cause.TheVariants.Syntax}
+use Rattle.assembler.specs.Layout.{Laid, start_layout, after, labelled, space_checked, parsed, with_piece, all_placed, Contents, Scope, nothing, joined, added, held, all_held}
+use Rattle.assembler.specs.{declared.layout.Piece.Piece, declared.layout.Position.Position}
 use Rattle.asm_statements.proofs.Stepping.{and_then-ok, and_then-each}
-use Rattle.assembler.proofs.Stepping.{at_line-ok}
-use Rattle.assembler.proofs.Sizes.{IsMeasured, measured-nothing, measured-statement, same_contents}
+use Rattle.assembler.proofs.{Stepping.at_line-ok, Sizes.IsMeasured, Sizes.measured-nothing, Sizes.measured-statement, Sizes.same_contents}
 
 -- ---- a line
 

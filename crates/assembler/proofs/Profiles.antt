@@ -1,13 +1,10 @@
 -- What the statements of a source come to may be loaded.
 use Rattle.std.proofs.Common.{◌≡◌, ℕ, ◌+◌, ◌*◌, ◌%◌, ◌<◌, ◌≤◌, subst, List, [], ◌∷◌, ◌++◌, length, drop, refl, sym, ap, ◌∙◌, arith, length-drop}
-use Rattle.std.proofs.lemmas.List.{length-append}
-use Rattle.std.proofs.lemmas.List.Elements.{All-cons, All-nil}
+use Rattle.std.proofs.{lemmas.List.length-append, lemmas.List.Elements.All-cons, lemmas.List.Elements.All-nil}
 use Rattle.memory_model.specs.Access.{low_bytes}
-use Rattle.machine_model.specs.declared.image.Segment.{Segment}
-use Rattle.machine_model.specs.Images.{IsLoadable, IsProfile, bytes_of_words}
+use Rattle.machine_model.specs.{declared.image.Segment.Segment, Images.IsLoadable, Images.IsProfile, Images.bytes_of_words}
 use Rattle.machine_model.proofs.Words.{length-low_bytes}
-use Rattle.assembler.specs.Assembly.{pages, data_base, words_of, text_segment, data_segment, data_segments}
-use Rattle.assembler.specs.declared.filling.Cell.{Cell}
+use Rattle.assembler.specs.{Assembly.pages, Assembly.data_base, Assembly.words_of, Assembly.text_segment, Assembly.data_segment, Assembly.data_segments, declared.filling.Cell.Cell}
 
 -- text has four bytes for each word
 pub text_length : (cells : List Cell) → length (bytes_of_words (words_of cells)) ≡ 4 * length cells

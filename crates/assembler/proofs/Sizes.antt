@@ -5,19 +5,11 @@ use Rattle.std.proofs.lemmas.List.{length-replicate, length-map}
 use Rattle.formats.specs.declared.instr.Instr.{Instr}
 use Rattle.asm_text.specs.declared.token.Line.{Line}
 use Rattle.machine_model.proofs.Words.{length-bytes_of_words}
-use Rattle.asm_statements.specs.Steps.{and_then}
-use Rattle.asm_statements.specs.Expansion.{expansion_of, word_count, words_taken}
-use Rattle.assembler.specs.Faults.{at_line}
-use Rattle.assembler.specs.Layout.{counted, with_bytes, advanced, within, after, units_of, space_units, numbers_in, string_in, space_bytes}
-use Rattle.assembler.specs.Filling.{Contents, Scope, nothing, joined, in_bytes, in_words, in_zeros, words_of_numbers, bytes_of_numbers, words_of_expansion, byte_of, instruction_of, instruction_held, bytes_held, held}
-use Rattle.assembler.specs.declared.fault.AsmFault.{AsmFault}
-use Rattle.assembler.specs.declared.fault.Cause.TheVariants.{Range}
-use Rattle.assembler.specs.declared.layout.Position.{Position}
-use Rattle.asm_statements.specs.declared.mnemonic.Mnemonic.{Mnemonic}
+use Rattle.asm_statements.specs.{Tokens.and_then, Expansion.expansion_of, Expansion.instructions_of, Expansion.words_taken, declared.mnemonic.Mnemonic.Mnemonic}
+use Rattle.assembler.specs.{Faults.at_line, declared.fault.AsmFault.AsmFault, declared.fault.Cause.TheVariants.Range, declared.layout.Position.Position}
+use Rattle.assembler.specs.Layout.{counted, with_bytes, advanced, within, after, units_of, space_units, numbers_in, string_in, space_bytes, Contents, Scope, nothing, joined, in_bytes, in_words, in_zeros, words_of_numbers, bytes_of_numbers, words_of_expansion, byte_of, instruction_of, instruction_held, bytes_held, held}
 use Rattle.asm_statements.specs.declared.mnemonic.Mnemonic.TheVariants as form
-use Rattle.asm_statements.specs.declared.operands.Operands.{Operands}
-use Rattle.asm_statements.specs.declared.expansion.Expansion.{Expansion}
-use Rattle.asm_statements.specs.declared.expansion.Expansion.TheVariants.{One, Two}
+use Rattle.asm_statements.specs.{declared.operands.Operands.Operands, declared.expansion.Expansion.Expansion, declared.expansion.Expansion.TheVariants.One}
 use Rattle.asm_statements.specs.declared.statement.Statement.{Statement}
 use Rattle.asm_statements.specs.declared.statement.Statement.TheVariants as statement
 use Rattle.asm_statements.proofs.Stepping.{and_then-ok, ok_or-ok}
@@ -63,9 +55,8 @@ length-bytes_of_numbers (n ∷ ns) bytes is =
     let same : b ∷ rest ≡ bytes = cc in
     ap length (sym same) ∙ ap suc (length-bytes_of_numbers ns rest are)
 
-words_in_expansion : (e : Expansion) → length (words_of_expansion e) ≡ word_count e
-words_in_expansion (One i) = refl
-words_in_expansion (Two i j) = refl
+abbrev word_count : Expansion → ℕ
+word_count e = length (instructions_of e)
 
 one_counted : {A : Type 0} (f : A → Instr) (x : Option A) (e : Expansion) → option_map (λ (a : A). One (f a)) x ≡ Some e → word_count e ≡ 1
 one_counted f (Some a) e is = let same : One (f a) ≡ e = cc in ap word_count (sym same)
@@ -125,7 +116,7 @@ measured-instruction : (source : List ℕ) (line : Line) (p : Position) (mnemoni
     → IsMeasured (advanced p (counted (units_of (words_taken mnemonic o) p.in_data))) (joined c d)
 measured-instruction source line p mnemonic o v c d m is =
     let (e, taken, made) = and_then-ok (instruction_of source line mnemonic o v) (λ (x : Expansion). Ok (in_words p.in_data line.number (words_of_expansion x))) d is in
-    let count : length (words_of_expansion e) ≡ words_taken mnemonic o = words_in_expansion e ∙ instruction-counted source line mnemonic o v e taken in
+    let count : length (words_of_expansion e) ≡ words_taken mnemonic o = length-map (instructions_of e) _ ∙ instruction-counted source line mnemonic o v e taken in
     subst (λ (x : Contents). IsMeasured (advanced p (counted (units_of (words_taken mnemonic o) p.in_data))) (joined c x)) (same_contents (in_words p.in_data line.number (words_of_expansion e)) d made)
     (subst (λ (k : ℕ). IsMeasured (advanced p (counted (units_of k p.in_data))) (joined c (in_words p.in_data line.number (words_of_expansion e)))) count
     (measured-put p (units_of (length (words_of_expansion e)) p.in_data) c (in_words p.in_data line.number (words_of_expansion e)) m (long-words p.in_data line.number (words_of_expansion e))))

@@ -6,26 +6,14 @@ use Rattle.std.proofs.lemmas.Bool.Decides.{nat_tests}
 use Rattle.memory_model.specs.Access.{low_bytes}
 use Rattle.machine_model.specs.Images.{bytes_of_words}
 use Rattle.asm_text.specs.declared.token.Line.{Line}
-use Rattle.asm_statements.specs.Steps.{and_then}
-use Rattle.asm_statements.specs.Expansion.{expansion_of}
-use Rattle.assembler.specs.Faults.{at_line, fault_at}
-use Rattle.assembler.specs.Layout.{numbers_in, string_in, space_bytes, spot_of, is_space, space_checked}
-use Rattle.assembler.specs.Filling.{Contents, Scope, nothing, in_bytes, in_words, in_zeros, words_of_numbers, bytes_of_numbers, words_of_expansion, byte_of, address_of, distance_of, instruction_held, bytes_held, held}
-use Rattle.assembler.specs.Assembly.{words_of}
-use Rattle.assembler.specs.Sections.{HoldsBytes}
-use Rattle.assembler.specs.declared.fault.AsmFault.{AsmFault}
-use Rattle.assembler.specs.declared.fault.Cause.TheVariants.{Range}
-use Rattle.assembler.specs.declared.layout.Position.{Position}
-use Rattle.asm_statements.specs.declared.mnemonic.Mnemonic.{Mnemonic}
-use Rattle.asm_statements.specs.declared.operands.Operands.{Operands}
-use Rattle.asm_statements.specs.declared.expansion.Expansion.{Expansion}
-use Rattle.asm_statements.specs.declared.statement.Statement.{Statement}
+use Rattle.asm_statements.specs.{Tokens.and_then, Expansion.expansion_of, declared.mnemonic.Mnemonic.Mnemonic, declared.operands.Operands.Operands}
+use Rattle.assembler.specs.{Faults.at_line, Faults.fault_at, Assembly.words_of, Sections.HoldsBytes, declared.fault.AsmFault.AsmFault, declared.fault.Cause.TheVariants.Range}
+use Rattle.assembler.specs.Layout.{numbers_in, string_in, space_bytes, spot_of, is_space, space_checked, Contents, Scope, nothing, in_bytes, in_words, in_zeros, words_of_numbers, bytes_of_numbers, words_of_expansion, byte_of, address_of, distance_of, instruction_held, bytes_held, held}
+use Rattle.assembler.specs.{declared.layout.Position.Position, declared.filling.Cell.Cell}
+use Rattle.asm_statements.specs.{declared.expansion.Expansion.Expansion, declared.statement.Statement.Statement}
 use Rattle.asm_statements.specs.declared.statement.Statement.TheVariants as statement
-use Rattle.assembler.specs.declared.filling.Cell.{Cell}
-use Rattle.asm_statements.proofs.Stepping.{and_then-ok, ok_or-ok}
-use Rattle.assembler.proofs.Stepping.{at_line-ok}
-use Rattle.asm_statements.proofs.Registers.{IsKnown}
-use Rattle.assembler.proofs.Sizes.{same_contents}
+use Rattle.asm_statements.proofs.{Stepping.and_then-ok, Stepping.ok_or-ok, Registers.IsKnown}
+use Rattle.assembler.proofs.{Stepping.at_line-ok, Sizes.same_contents}
 
 -- the bytes of the words of text
 abbrev pub text_bytes : Contents → List ℕ

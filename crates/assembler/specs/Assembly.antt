@@ -1,19 +1,12 @@
 -- The image and the listing of a source, or its first fault.
 use Rattle.std.specs.Prelude.{◌≡◌, ℕ, ◌+◌, ◌*◌, ◌/◌, ◌%◌, ◌≤◌, ◌<◌, ◌&&◌, true, false, not, nat_lt, if◌then◌else◌, List, [], ◌∷◌, length, codes, Option, Some, None, Result, Ok, Err}
 use Rattle.std.specs.FinMap.{get}
-use Rattle.machine_model.specs.Images.{Program, bytes_of_words}
-use Rattle.machine_model.specs.declared.image.Segment.{Segment}
-use Rattle.asm_text.specs.Text.{IsText, FirstFault}
-use Rattle.asm_text.specs.declared.token.Line.{Line}
-use Rattle.asm_statements.specs.Steps.{and_then}
-use Rattle.assembler.specs.Faults.{whole}
-use Rattle.assembler.specs.Layout.{Laid, start_layout, all_placed}
-use Rattle.assembler.specs.Filling.{Scope, Contents, all_held}
-use Rattle.assembler.specs.declared.fault.AsmFault.{AsmFault}
-use Rattle.assembler.specs.declared.fault.Cause.TheVariants.{Syntax, NoStart, TooLarge}
-use Rattle.assembler.specs.declared.labels.Spot.{Spot}
-use Rattle.assembler.specs.declared.filling.Cell.{Cell}
-use Rattle.assembler.specs.declared.listing.ListingRow.{ListingRow}
+use Rattle.machine_model.specs.{Images.Program, Images.bytes_of_words, declared.image.Segment.Segment}
+use Rattle.asm_text.specs.{Text.IsText, Text.FirstFault, declared.token.Line.Line}
+use Rattle.asm_statements.specs.Tokens.{and_then}
+use Rattle.assembler.specs.{Faults.whole, Layout.Laid, Layout.start_layout, Layout.all_placed, Layout.Scope, Layout.Contents, Layout.all_held, declared.fault.AsmFault.AsmFault}
+use Rattle.assembler.specs.{declared.fault.Cause.TheVariants.Syntax, declared.fault.Cause.TheVariants.NoStart, declared.fault.Cause.TheVariants.TooLarge, declared.labels.Spot.Spot}
+use Rattle.assembler.specs.{declared.filling.Cell.Cell, declared.listing.ListingRow.ListingRow}
 
 -- how many pages of 4,096 bytes so many bytes take
 abbrev pub pages : ℕ → ℕ
@@ -28,7 +21,6 @@ abbrev pub start_at : Option Spot → ℕ → Result ℕ AsmFault
 start_at None words = Err (whole NoStart)
 start_at (Some spot) words = if not spot.in_data && nat_lt spot.offset words then Ok (65536 + 4 * spot.offset) else Err (whole NoStart)
 
--- an address of a word of text, of which there are so many
 abbrev pub IsTextAddress : ℕ → ℕ → Type 0
 IsTextAddress words at = (at % 4 ≡ 0) × (65536 ≤ at) × (at < 65536 + 4 * words)
 
@@ -43,7 +35,6 @@ abbrev pub rows_from : ℕ → List Cell → List ListingRow
 rows_from at [] = []
 rows_from at (c ∷ cells) = (record { address = at; word = c.word; line = c.line }) ∷ rows_from (at + 4) cells
 
--- the words of text
 abbrev pub words_of : List Cell → List ℕ
 words_of [] = []
 words_of (c ∷ cells) = c.word ∷ words_of cells
@@ -62,15 +53,10 @@ data_segments at (b ∷ bytes) = data_segment at (b ∷ bytes) ∷ []
 abbrev pub image_of : ℕ → Contents → Program
 image_of entry c = record { entry = entry; segments = text_segment (bytes_of_words (words_of c.cells)) ∷ data_segments (data_base (length c.cells)) c.bytes }
 
--- an image, and the listing of its text
 pub record Assembled : Type 0 where
   pub image : Program
   pub listing : List ListingRow
 
-abbrev pub assembled : ℕ → Contents → Assembled
-assembled entry c = record { image = image_of entry c; listing = rows_from 65536 c.cells }
-
--- what replaces labels, by where they stand
 abbrev pub scope_of : List ℕ → Laid → Scope
 scope_of source l = record { source = source; labels = l.labels; data_base = data_base l.position.words }
 
@@ -80,9 +66,8 @@ assembly source lines =
     and_then (all_placed source lines start_layout) (λ l.
     and_then (entry_of l) (λ entry.
     and_then (all_held (scope_of source l) l.pieces) (λ c.
-    Ok (assembled entry c))))
+    Ok (record { image = image_of entry c; listing = rows_from 65536 c.cells }))))
 
--- the longest source, in bytes
 abbrev pub source_limit : ℕ
 source_limit = 1048576
 

@@ -1,12 +1,9 @@
 -- What a fault says.
 use Rattle.std.specs.Prelude.{ℕ, ◌+◌, ◌-◌, min, List, length, Result, Ok, Err}
-use Rattle.asm_text.specs.declared.fault.TextFault.{TextFault}
+use Rattle.asm_text.specs.{declared.fault.TextFault.TextFault, declared.token.Line.Line}
 use Rattle.asm_text.specs.declared.fault.Cause as text
-use Rattle.asm_text.specs.declared.fault.Cause.TheVariants as text_cause
-use Rattle.asm_text.specs.declared.token.Line.{Line}
-use Rattle.assembler.specs.declared.fault.Cause.{Cause}
+use Rattle.assembler.specs.{declared.fault.Cause.Cause, declared.fault.AsmFault.AsmFault}
 use Rattle.assembler.specs.declared.fault.Cause.TheVariants.{Syntax, UnknownName, DoubleLabel, Range, NoStart, TooLarge, OutOfMemory}
-use Rattle.assembler.specs.declared.fault.AsmFault.{AsmFault}
 
 abbrev pub number_of : Cause → ℕ
 number_of Syntax = 1
@@ -28,15 +25,13 @@ out_of_memory = whole OutOfMemory
 abbrev pub fault_at : List ℕ → Line → Cause → ℕ → AsmFault
 fault_at source line why at = record { why = why; line = line.number; column = min at (length source) - line.start + 1 }
 
--- a fault of the source's tokens
 abbrev pub cause_of : text.Cause → Cause
-cause_of text_cause.Syntax = Syntax
-cause_of text_cause.OutOfMemory = OutOfMemory
+cause_of text.TheVariants.Syntax = Syntax
+cause_of text.TheVariants.OutOfMemory = OutOfMemory
 
 abbrev pub of_text : TextFault → AsmFault
 of_text fault = record { why = cause_of fault.why; line = fault.line; column = fault.column }
 
--- a fault at a place in a line
 abbrev pub at_line : {A : Type 0} → List ℕ → Line → Cause → Result A ℕ → Result A AsmFault
 at_line source line why (Ok x) = Ok x
 at_line source line why (Err at) = Err (fault_at source line why at)

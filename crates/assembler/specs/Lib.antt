@@ -2,10 +2,6 @@
 pub mod Faults
 pub mod Labels
 pub mod Layout
-pub mod Filling
 pub mod Assembly
-pub mod Listed
-pub mod Instructions
 pub mod Sections
 pub mod Loads
-pub mod Laws

@@ -3,10 +3,8 @@ ghost use Rattle.std.specs.Prelude.{◌≡◌, ◌≢◌, ◌∷◌, ◌≤◌, 
 ghost use Rattle.machine_model.specs.Images.{bytes_of_words};
 ghost use Rattle.assembler.specs.Faults.{out_of_memory};
 ghost use Rattle.assembler.specs.Assembly.{pages, data_base, IsTextAddress, start_at, entry_of, words_of, image_of, text_segment, data_segment, data_segments, assembly, Assembles, FaultOf};
-ghost use Rattle.assembler.specs.Layout.{laid};
-ghost use Rattle.assembler.specs.Filling.{shown};
-ghost use Rattle.assembler.specs.Listed.{IsListedIn};
-ghost use Rattle.assembler.specs.Instructions.{ListsInstructions};
+ghost use Rattle.assembler.specs.Layout.{laid, shown};
+ghost use Rattle.assembler.specs.Sections.{IsListedFirst, ListsInstructions};
 
 use crate::fault::{AsmFault, Cause};
 use crate::filling::{Cell, Output, fill};
@@ -38,7 +36,7 @@ const SOURCE_LIMIT: usize = 1_048_576;
 /// `OutOfMemory`, at 1:1, may come at any time.
 pub fn assemble(alloc: Global, source: &str) -> Result<(Image, Listing), AsmFault>
     ensures assembled { IfOk result (λ r. Assembles source.now r.0 r.1) }
-    ensures listed { IfOk result (λ r. IsListedIn r.0 r.1) }
+    ensures listed { IfOk result (λ r. IsListedFirst r.0.segments r.1) }
     ensures meant { IfOk result (λ r. ListsInstructions source.now r.1) }
     ensures refused { IfErr result (λ f. f ≢ out_of_memory → FaultOf source.now f) }
 {

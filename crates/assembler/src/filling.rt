@@ -1,8 +1,7 @@
 //! Statements to the words of text and the bytes of data.
 ghost use Rattle.std.specs.Prelude.{◌≡◌, ◌≢◌, [], ◌∷◌, ◌≤ℤ◌, ◌+ℤ◌, ◌-ℤ◌, pos, Ok, Err, IfOk, IfErr, OnOk};
 ghost use Rattle.assembler.specs.Faults.{out_of_memory};
-ghost use Rattle.assembler.specs.Layout.{numbers_in, string_in, spot_of};
-ghost use Rattle.assembler.specs.Filling.{shown, address_of, distance_of, byte_of, added, joined, in_bytes, in_words, in_zeros, words_of_numbers, words_of_expansion, instruction_of, instruction_held, bytes_held, held, all_held};
+ghost use Rattle.assembler.specs.Layout.{numbers_in, string_in, spot_of, shown, address_of, distance_of, byte_of, added, joined, in_bytes, in_words, in_zeros, words_of_numbers, words_of_expansion, instruction_of, instruction_held, bytes_held, held, all_held};
 
 use crate::fault::{AsmFault, Cause, fault_at};
 use crate::labels::{Labels, Spot};

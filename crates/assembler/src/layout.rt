@@ -1,7 +1,7 @@
 //! Lines to statements, each with its place, and where the labels stand.
 ghost use Rattle.std.specs.Prelude.{◌≡◌, ◌≢◌, Ok, Err, IfOk, IfErr, OnOk, length};
 ghost use Rattle.assembler.specs.Faults.{out_of_memory};
-ghost use Rattle.assembler.specs.Layout.{start, start_layout, spot_of, counted, with_words, with_bytes, advanced, within, after, space_units, string_in, numbers_in, space_checked, label_declared, units_of, parsed, all_placed, laid, space_bytes};
+ghost use Rattle.assembler.specs.Layout.{start_layout, spot_of, counted, with_bytes, advanced, within, after, space_units, string_in, numbers_in, space_checked, label_declared, units_of, parsed, all_placed, laid, space_bytes};
 
 use crate::fault::{AsmFault, Cause, fault_at};
 use crate::labels::{Labels, Spot};
@@ -23,7 +23,7 @@ pub struct Position {
 impl Position {
     /// Before the first line.
     pub fn start() -> Position
-        ensures { result ≡ start }
+        ensures { result ≡ start_layout.position }
     {
         Position {
             in_data: false,
@@ -39,16 +39,6 @@ impl Position {
         Spot {
             in_data: self.in_data,
             offset: if self.in_data { self.bytes } else { self.words },
-        }
-    }
-
-    fn with_words(self, count: u32) -> Position
-        ensures { result ≡ with_words self count }
-    {
-        Position {
-            in_data: self.in_data,
-            words: self.words.saturating_add(count),
-            bytes: self.bytes,
         }
     }
 
@@ -69,7 +59,11 @@ impl Position {
         if self.in_data {
             self.with_bytes(size)
         } else {
-            self.with_words(size)
+            Position {
+                in_data: self.in_data,
+                words: self.words.saturating_add(size),
+                bytes: self.bytes,
+            }
         }
     }
 

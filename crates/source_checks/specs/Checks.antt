@@ -1,11 +1,8 @@
 -- What a check of a source finds.
 use Rattle.std.specs.Prelude.{ℕ, List}
-use Rattle.assembler.specs.Assembly.{Assembles, FaultOf}
-use Rattle.assembler.specs.declared.fault.AsmFault.{AsmFault}
-use Rattle.assembler.specs.declared.fault.Cause.{Cause}
+use Rattle.assembler.specs.{Assembly.Assembles, Assembly.FaultOf, declared.fault.AsmFault.AsmFault, declared.fault.Cause.Cause}
 use Rattle.assembler.specs.declared.fault.Cause.TheVariants.{NoStart, TooLarge, OutOfMemory}
-use Rattle.source_checks.specs.declared.checking.Checked.{Checked}
-use Rattle.source_checks.specs.declared.checking.Checked.TheVariants.{Refused, Passed}
+use Rattle.source_checks.specs.{declared.checking.Checked.Checked, declared.checking.Checked.TheVariants.Refused, declared.checking.Checked.TheVariants.Passed}
 
 -- a source was checked: a fault is its first one, and without a fault it assembles to the image and the listing
 abbrev pub IsChecked : List ℕ → Checked → Type 0

@@ -4,20 +4,13 @@ use Rattle.std.specs.Prelude.{◌==◌, if◌then◌else◌, All, slice_index}
 use Rattle.std.specs.FinMap.{get}
 use Rattle.std.proofs.lemmas.List.Elements.{All-nil, All-cons, All-head, All-tail}
 use Rattle.formats.specs.declared.instr.Instr.{Instr}
-use Rattle.memory_model.specs.Memory.{Memory, Cell}
+use Rattle.memory_model.specs.{Memory.Memory, Memory.Cell, declared.access.Rights.Rights, declared.access.Width.TheVariants.Word, declared.access.BusFault.BusFault}
 use Rattle.memory_model.specs.Access.{to_execute, fault_at, range_fault, access_fault, byte_of, value_at, or_fault, fetched, low_bytes, cell_with}
-use Rattle.memory_model.specs.declared.access.Rights.{Rights}
-use Rattle.memory_model.specs.declared.access.Width.TheVariants.{Word}
-use Rattle.memory_model.specs.declared.access.BusFault.{BusFault}
 use Rattle.memory_model.specs.declared.access.BusFault.TheVariants.{NoRight, Misaligned}
 use Rattle.machine_model.specs.declared.image.Segment.{Segment}
 use Rattle.asm_text.specs.declared.token.Line.{Line}
-use Rattle.assembler.specs.Assembly.{text_segment}
-use Rattle.assembler.specs.Listed.{AreListed, IsListedFirst}
-use Rattle.assembler.specs.Filling.{instructions_of}
-use Rattle.assembler.specs.Instructions.{AreInstructions, IsListedInstruction, ListsInstructions}
-use Rattle.asm_statements.specs.declared.mnemonic.Mnemonic.{Mnemonic}
-use Rattle.asm_statements.specs.declared.operands.Operands.{Operands}
+use Rattle.assembler.specs.{Assembly.text_segment, Sections.AreListed, Sections.IsListedFirst, Sections.AreInstructions, Sections.IsListedInstruction, Sections.ListsInstructions}
+use Rattle.asm_statements.specs.{Expansion.instructions_of, declared.mnemonic.Mnemonic.Mnemonic, declared.operands.Operands.Operands}
 use Rattle.assembler.specs.declared.listing.ListingRow.{ListingRow}
 use Rattle.source_laws.specs.Loaded.{IsFetched, AreFetched, FetchesInstructions}
 

@@ -1,11 +1,8 @@
 -- The file of a program names it alone.
 use Rattle.std.proofs.Common.{◌≡◌, ℕ, List, Option, Some, None, sym, ◌∙◌, inl, inr}
 use Rattle.machine_model.specs.Images.{Program, IsProfile}
-use Rattle.image_model.specs.Checks.{first_fault}
-use Rattle.image_model.specs.Names.{IsRefused}
+use Rattle.image_model.specs.{Checks.first_fault, Names.IsRefused, declared.fault.ElfFault.ElfFault, declared.fault.ElfFault.TheVariants.OutOfMemory}
 use Rattle.elf32.specs.Files.{file_of, RoundTrips}
-use Rattle.image_model.specs.declared.fault.ElfFault.{ElfFault}
-use Rattle.image_model.specs.declared.fault.ElfFault.TheVariants.{OutOfMemory}
 use Rattle.source_laws.specs.Loaded.{NamesAlone}
 
 only-memory : (file : List ℕ) → first_fault file ≡ None → (why : ElfFault) → IsRefused file why → why ≡ OutOfMemory

@@ -1,22 +1,13 @@
 -- What becomes of a source: the file of its image, and the first state of a machine that is loaded from it.
 use Rattle.std.specs.Prelude.{◌≡◌, ℕ, ◌+◌, ◌*◌, List, [], ◌∷◌, ◌++◌, All, Ok}
-use Rattle.formats.specs.Meaning.{Means}
-use Rattle.formats.specs.declared.instr.Instr.{Instr}
-use Rattle.memory_model.specs.Memory.{Memory}
-use Rattle.memory_model.specs.Access.{fetched}
-use Rattle.machine_model.specs.Images.{Program, IsProfile}
+use Rattle.formats.specs.{Meaning.Means, declared.instr.Instr.Instr}
+use Rattle.memory_model.specs.{Memory.Memory, Access.fetched}
+use Rattle.machine_model.specs.{Images.Program, Images.IsProfile, First.first_state}
 use Rattle.elf32.specs.Files.{file_of}
-use Rattle.image_model.specs.Names.{Names, IsRefused}
-use Rattle.image_model.specs.declared.fault.ElfFault.{ElfFault}
-use Rattle.image_model.specs.declared.fault.ElfFault.TheVariants.{OutOfMemory}
-use Rattle.asm_text.specs.Text.{IsText}
-use Rattle.asm_text.specs.declared.token.Line.{Line}
-use Rattle.assembler.specs.Filling.{instructions_of}
-use Rattle.assembler.specs.Instructions.{IsInstruction, IsListedInstruction}
-use Rattle.asm_statements.specs.declared.mnemonic.Mnemonic.{Mnemonic}
-use Rattle.asm_statements.specs.declared.operands.Operands.{Operands}
-use Rattle.assembler.specs.declared.listing.ListingRow.{ListingRow}
-use Rattle.machine_model.specs.First.{first_state}
+use Rattle.image_model.specs.{Names.Names, Names.IsRefused, declared.fault.ElfFault.ElfFault, declared.fault.ElfFault.TheVariants.OutOfMemory}
+use Rattle.asm_text.specs.{Text.IsText, declared.token.Line.Line}
+use Rattle.assembler.specs.{Sections.IsInstruction, Sections.IsListedInstruction, declared.listing.ListingRow.ListingRow}
+use Rattle.asm_statements.specs.{Expansion.instructions_of, declared.mnemonic.Mnemonic.Mnemonic, declared.operands.Operands.Operands}
 
 -- a file names this program and no other, and is refused for want of memory alone
 pub record NamesAlone (file : List ℕ) (program : Program) : Type 0 where

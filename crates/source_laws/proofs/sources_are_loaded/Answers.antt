@@ -2,13 +2,10 @@
 use Rattle.std.specs.Prelude.{All}
 use Rattle.memory_model.specs.Memory.{Memory}
 use Rattle.std.proofs.Common.{ap}
-use Rattle.machine_model.specs.Images.{Program, IsProfile}
-use Rattle.assembler.specs.Assembly.{data_segments}
-use Rattle.assembler.specs.Sections.{text_of, data_of, data_begins, IsByLines}
-use Rattle.machine_model.specs.First.{first_state}
+use Rattle.machine_model.specs.{Images.Program, Images.IsProfile, First.first_state}
+use Rattle.assembler.specs.{Assembly.data_segments, Sections.text_of, Sections.data_of, Sections.data_begins, Sections.IsByLines}
 use Rattle.source_laws.specs.Loaded.{IsFetched}
-use Rattle.source_laws.proofs.Fetching.{text-fetched, instructions-fetched}
-use Rattle.source_laws.proofs.Files.{names-alone}
+use Rattle.source_laws.proofs.{Fetching.text-fetched, Fetching.instructions-fetched, Files.names-alone}
 use Rattle.source_laws.proofs.sources_are_loaded.Goals as goal
 
 pub returns : goal.returns

@@ -1,9 +1,6 @@
 use Rattle.std.proofs.Common.{◌≡◌, ℤ, SFits, w64, to_z, of_z, to_z-of_z, ap, ◌∙◌}
 use Rattle.std.specs.Prelude.{Option}
-use Rattle.asm_statements.specs.Expansion.{expansion_of}
-use Rattle.asm_statements.specs.declared.mnemonic.Mnemonic.{Mnemonic}
-use Rattle.asm_statements.specs.declared.operands.Operands.{Operands}
-use Rattle.asm_statements.specs.declared.expansion.Expansion.{Expansion}
+use Rattle.asm_statements.specs.{Expansion.expansion_of, declared.mnemonic.Mnemonic.Mnemonic, declared.operands.Operands.Operands, declared.expansion.Expansion.Expansion}
 use Rattle.asm_statements.proofs.expansion.expanded.Goals as goal
 
 -- the expansion of a mnemonic of this form, with the number as it is handed on

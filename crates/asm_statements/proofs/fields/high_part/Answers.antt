@@ -1,7 +1,5 @@
 use Rattle.std.proofs.Common.{rules}
-use Rattle.asm_statements.specs.Expansion.{high_part}
-use Rattle.asm_statements.specs.Expansion.{low_part}
-use Rattle.asm_statements.specs.Expansion.{modulo_word}
+use Rattle.asm_statements.specs.Expansion.{high_part, low_part, modulo_word}
 use Rattle.asm_statements.proofs.fields.high_part.Goals as goal
 
 -- Without an answer this would be proved too; with one, an edit that breaks it is refused sooner.

@@ -1,5 +1,5 @@
 use Rattle.std.proofs.Common.{◌≡◌, drop}
-use Rattle.asm_statements.specs.Operands.{operands_read, slots_of, no_operands}
+use Rattle.asm_statements.specs.Statements.{operands_read, slots_of, no_operands}
 use Rattle.asm_statements.proofs.operands.read_operands.Given as goal
 
 abbrev pub invariant-loop-slot : goal.invariant-loop-slot

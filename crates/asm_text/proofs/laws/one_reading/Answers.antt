@@ -1,6 +1,5 @@
 -- The lemmas on lines and tokens, one step at a time, say it.
-use Rattle.asm_text.proofs.Every.{has_text}
-use Rattle.asm_text.proofs.Unique.{one_text, text_or_fault, one_fault}
+use Rattle.asm_text.proofs.{Every.has_text, Unique.one_text, Unique.text_or_fault, Unique.one_fault}
 use Rattle.asm_text.proofs.laws.one_reading.Goals as goal
 
 pub returns : goal.returns

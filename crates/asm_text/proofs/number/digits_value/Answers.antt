@@ -2,8 +2,7 @@
 use Rattle.std.proofs.lemmas.Bool.{lt-ltb}
 use Rattle.std.proofs.Common.{◌≡◌, ◌+◌, ◌*◌, ◌<◌, ℕ, Bool, cond, None, get_or, drop, arith, rules, ap, sym, subst, ◌∙◌}
 use Rattle.std.specs.Char.{digit_value}
-use Rattle.asm_text.specs.Numbers.{digits_value}
-use Rattle.asm_text.specs.Scan.{bounded}
+use Rattle.asm_text.specs.{Letters.digits_value, Scan.bounded}
 use Rattle.asm_text.proofs.Numbers.{digits_more, too_large}
 use Rattle.asm_text.proofs.number.digits_value.Goals as goal
 

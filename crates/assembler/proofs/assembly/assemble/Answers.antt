@@ -1,7 +1,6 @@
 use Rattle.std.proofs.Common.{arith, rules}
 use Rattle.std.proofs.lemmas.Result.{IfOk-weaker, IfErr-weaker}
-use Rattle.assembler.proofs.Assemblies.{line-fault, listed-made}
-use Rattle.assembler.proofs.Listings.{lists-instructions}
+use Rattle.assembler.proofs.{Assemblies.line-fault, Assemblies.listed-made, Listings.lists-instructions}
 use Rattle.assembler.proofs.assembly.assemble.Goals as goal
 
 pub returns-clause-refused : goal.returns-clause-refused

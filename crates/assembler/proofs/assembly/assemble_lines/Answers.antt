@@ -1,6 +1,5 @@
 use Rattle.std.proofs.Common.{arith}
-use Rattle.assembler.specs.Layout.{laid}
-use Rattle.assembler.specs.Filling.{shown}
+use Rattle.assembler.specs.Layout.{laid, shown}
 use Rattle.assembler.proofs.Assemblies.{sized}
 use Rattle.assembler.proofs.assembly.assemble_lines.Goals as goal
 

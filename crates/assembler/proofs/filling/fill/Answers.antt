@@ -1,6 +1,6 @@
 use Rattle.std.proofs.Common.{sym, ◌∙◌}
 use Rattle.std.proofs.lemmas.Result.{err_from_is_err_and}
-use Rattle.assembler.specs.Filling.{shown}
+use Rattle.assembler.specs.Layout.{shown}
 use Rattle.assembler.proofs.Passes.{held-goes-on, held-stops}
 use Rattle.assembler.proofs.filling.fill.Goals as goal
 

@@ -1,5 +1,5 @@
 use Rattle.std.proofs.Common.{◌≡◌, drop}
-use Rattle.assembler.specs.Filling.{all_held, added, shown}
+use Rattle.assembler.specs.Layout.{all_held, added, shown}
 use Rattle.assembler.proofs.filling.fill.Given as goal
 
 abbrev pub invariant-loop-piece : goal.invariant-loop-piece

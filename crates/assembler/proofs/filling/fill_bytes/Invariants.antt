@@ -1,7 +1,6 @@
 use Rattle.std.proofs.Common.{◌≡◌, List, ℕ, ◌++◌, drop, Result, Ok}
-use Rattle.asm_statements.specs.Steps.{and_then}
-use Rattle.assembler.specs.Layout.{numbers_in}
-use Rattle.assembler.specs.Filling.{bytes_of_numbers}
+use Rattle.asm_statements.specs.Tokens.{and_then}
+use Rattle.assembler.specs.Layout.{numbers_in, bytes_of_numbers}
 use Rattle.assembler.proofs.filling.fill_bytes.Given as goal
 
 abbrev pub invariant-loop-token : goal.invariant-loop-token

@@ -1,6 +1,5 @@
 use Rattle.std.proofs.Common.{◌≡◌, drop}
-use Rattle.assembler.specs.Layout.{numbers_in}
-use Rattle.assembler.specs.Filling.{shown, joined, in_words, words_of_numbers}
+use Rattle.assembler.specs.Layout.{numbers_in, shown, joined, in_words, words_of_numbers}
 use Rattle.assembler.proofs.filling.put_numbers.Given as goal
 
 abbrev pub invariant-loop-token : goal.invariant-loop-token

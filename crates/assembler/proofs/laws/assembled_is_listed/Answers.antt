@@ -1,7 +1,5 @@
 use Rattle.std.proofs.Common.{refl}
-use Rattle.assembler.proofs.Assemblies.{listed-made}
-use Rattle.assembler.proofs.Listings.{lists-instructions, words-made}
-use Rattle.assembler.proofs.Loadables.{profile-made}
+use Rattle.assembler.proofs.{Assemblies.listed-made, Listings.lists-instructions, Listings.words-made, Loadables.profile-made}
 use Rattle.assembler.proofs.laws.assembled_is_listed.Goals as goal
 
 pub returns : goal.returns
