@@ -8,7 +8,7 @@ use Rattle.order_laws.specs.Moves.{Seen, calls}
 use Rattle.order_laws.specs.Orders.{IsOver}
 use Rattle.state_search.specs.declared.moves.Found.{Found}
 use Rattle.state_search.specs.declared.moves.Reached.{Reached}
-use Rattle.explored_runs.specs.Answering.{AreAfter, AreAnswered, AreNext, IsNext, boot_in, reached_by_next, reached_in, with_each, working}
+use Rattle.explored_runs.specs.Answering.{AreAfter, AreAnswered, AreNext, HaveKeys, IsNext, boot_in, reached_by_next, reached_in, with_each, working}
 use Rattle.explored_runs.specs.Replays.{seen_after_calls}
 use Rattle.explored_runs.specs.declared.runs.After.{After}
 use Rattle.explored_runs.specs.declared.runs.Next.{Next}
@@ -27,22 +27,22 @@ next_of n s ps (Over o) is = inr (sym (ap (λ (qs : List ℕ). with_each ps qs) 
 
 module _ (r : Runs) (files : List NamedFile) where
   abbrev NextIn : Found (Vec ℕ) → After → Type 0
-  NextIn f a = IsNext r.instructions (seen_after_calls r.instructions (boot_in r files) f.state.items) f.state.items a.next
+  NextIn f a = IsNext r.instructions (seen_after_calls r.instructions (boot_in r files) f.state.items) f.state.items a.next × HaveKeys r (reached_by_next a.next)
 
   -- one more state
   pub one_more : (fs : List (Found (Vec ℕ))) (xs : List After) (f : Found (Vec ℕ)) (a : After) → AreAfter r files fs xs → NextIn f a
       → AreAfter r files (fs ++ f ∷ []) (xs ++ a ∷ [])
-  one_more [] [] f a all next = (next, tt)
+  one_more [] [] f a all next = (next.0, next.1, tt)
   one_more [] (b ∷ xs) f a all next = absurd all
   one_more (g ∷ fs) [] f a all next = absurd all
-  one_more (g ∷ fs) (b ∷ xs) f a all next = (all.0, one_more fs xs f a all.1 next)
+  one_more (g ∷ fs) (b ∷ xs) f a all next = (all.0, all.1, one_more fs xs f a all.2 next)
 
   -- two pieces
   pub together : (fs gs : List (Found (Vec ℕ))) (xs ys : List After) → AreAfter r files fs xs → AreAfter r files gs ys → AreAfter r files (fs ++ gs) (xs ++ ys)
   together [] gs [] ys all more = more
   together [] gs (b ∷ xs) ys all more = absurd all
   together (g ∷ fs) gs [] ys all more = absurd all
-  together (g ∷ fs) gs (b ∷ xs) ys all more = (all.0, together fs gs xs ys all.1 more)
+  together (g ∷ fs) gs (b ∷ xs) ys all more = (all.0, all.1, together fs gs xs ys all.2 more)
 
   -- what came after them
   pub answered : (fs : List (Found (Vec ℕ))) (xs : List After) → AreAfter r files fs xs → AreAnswered r files fs (reached_in xs)
@@ -53,8 +53,9 @@ module _ (r : Runs) (files : List NamedFile) where
     reached_by_next a.next,
     reached_in xs,
     next_of r.instructions (seen_after_calls r.instructions (boot_in r files) f.state.items) f.state.items a.next all.0,
+    all.1,
     refl,
-    answered fs xs all.1,
+    answered fs xs all.2,
   )
 
   -- and after two pieces
@@ -65,15 +66,10 @@ module _ (r : Runs) (files : List NamedFile) where
     all.0,
     all.1 ++ ys,
     all.2,
-    ap (λ (zs : List (Reached (Vec ℕ))). zs ++ ys) all.3 ∙ append_assoc all.0 all.1 ys,
-    answered_more fs gs all.1 ys all.4 more,
+    all.3,
+    ap (λ (zs : List (Reached (Vec ℕ))). zs ++ ys) all.4 ∙ append_assoc all.0 all.1 ys,
+    answered_more fs gs all.1 ys all.5 more,
   )
-
--- one more
-pub reached_more : (xs : List After) (a : After) → reached_in (xs ++ a ∷ []) ≡ reached_in xs ++ reached_by_next a.next
-reached_more [] a = append-nil (reached_by_next a.next)
-reached_more (x ∷ xs) a =
-    ap (λ (ys : List (Reached (Vec ℕ))). reached_by_next x.next ++ ys) (reached_more xs a) ∙ sym (append_assoc (reached_by_next x.next) (reached_in xs) (reached_by_next a.next))
 
 -- one more of a list
 pub next_taken : {X : Type 0} (xs : List X) (i : ℕ) (x : X) → i < length xs → x ≡ get_or xs i x → take (i + 1) xs ≡ take i xs ++ x ∷ []

@@ -12,7 +12,7 @@ use Rattle.order_laws.proofs.Calls.{calls_commute}
 use Rattle.order_laws.proofs.Choosing.{found_end}
 use Rattle.order_laws.proofs.Outcomes.{outcomes}
 use Rattle.order_laws.proofs.Private.{stays_private}
-use Rattle.state_search.specs.Searches.{HasKey, IsSearched, WentOn}
+use Rattle.state_search.specs.Searches.{HasKey, HasSearched, IsSearched, WentOn}
 use Rattle.state_search.specs.declared.moves.Found.{Found}
 use Rattle.state_search.specs.declared.moves.Reached.{Reached}
 use Rattle.explored_runs.specs.CallSearches.{AnswersCalls, FindsAll, FindsByKeys, IsAnswered, KeysTell, Tells, seen_in, start}
@@ -89,5 +89,7 @@ module _ {S : Type 0} (begins : Reached S → Type 0) (expands : List (Found S) 
       outcomes = λ none stand es. outcomes n b (seen_in seen found) depth all_searched (left_none none) stand es;
     }
 
-  pub finds_by_keys : FindsByKeys begins expands gone left depth
-  finds_by_keys = record { searched = searched; finds = finds_all }
+-- so it finds all, of which it says how many states it went on from
+pub finds_by_keys : {S : Type 0} (begins : Reached S → Type 0) (expands : List (Found S) → List (Reached S) → Type 0) (many : ℕ) (left : List (Found S)) (depth : ℕ)
+    → HasSearched begins expands many left depth → FindsByKeys begins expands many left depth
+finds_by_keys begins expands many left depth has = record { searched = has; finds = finds_all begins expands has.gone_on left depth has.part }

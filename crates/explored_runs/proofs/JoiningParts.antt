@@ -5,6 +5,7 @@ use Rattle.order_laws.specs.Moves.{Seen, calls}
 use Rattle.order_laws.specs.Privacy.{IsPrivate}
 use Rattle.order_laws.specs.Searches.{HasState, WentOn as WentOnAll}
 use Rattle.state_search.specs.Searches.{HasKey, IsPart, WentOn}
+use Rattle.state_search.specs.Sharing.{HasShare}
 use Rattle.state_search.specs.declared.key.Key.{Key}
 use Rattle.state_search.specs.declared.moves.Found.{Found}
 use Rattle.state_search.specs.declared.moves.Reached.{Reached}
@@ -43,5 +44,8 @@ module _ {S : Type 0} (begins : Reached S → Type 0) (expands : List (Found S) 
       goes_on = λ f is. went_on f (searched.found.goes_on f is);
     }
 
-  pub finds_its_part : FindsItsPart begins expands gone left others depth
-  finds_its_part = record { searched = searched; finds = goes_on }
+-- so it goes on, of which it says how many states it went on from
+pub finds_its_part : {S : Type 0} (begins : Reached S → Type 0) (expands : List (Found S) → List (Reached S) → Type 0) (number of many : ℕ) (left others : List (Found S)) (depth : ℕ)
+    → HasShare begins expands number of many left others depth → FindsItsPart begins expands number of many left others depth
+finds_its_part begins expands number of many left others depth has =
+    record { searched = has.searched; shared = has.shared; finds = goes_on begins expands has.searched.gone_on left others depth has.searched.part }

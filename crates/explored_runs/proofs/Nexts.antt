@@ -147,8 +147,8 @@ module _ (r : Runs) (files : List NamedFile) where
   are_calls (g ∷ fs) next are f is =
       let own = are.0 in
       let rest = are.1 in
-      let joined : next ≡ own ++ rest = are.3 in
-      by own rest joined are.2 (are_calls fs rest are.4) (Contains-append_cases (g ∷ []) fs f is)
+      let joined : next ≡ own ++ rest = are.4 in
+      by own rest joined are.2 (are_calls fs rest are.5) (Contains-append_cases (g ∷ []) fs f is)
     where
       by : (own rest : List (Reached (Vec ℕ))) → next ≡ own ++ rest → AreNext n (seen g.state) g.state.items own → AreCalls n seen fs rest
           → Contains (g ∷ []) f ⊎ Contains fs f → Goes f next

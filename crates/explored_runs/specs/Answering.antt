@@ -1,20 +1,26 @@
 -- Runs that are replayed, and what a search of runs is answered: for each run those of one call more.
-use Rattle.std.specs.Prelude.{◌≡◌, ℕ, zero, suc, ◌⊎◌, if◌then◌else◌, List, [], ◌∷◌, ◌++◌, map, length, Result, Ok, Err}
+use Rattle.std.specs.Prelude.{◌≡◌, ℕ, zero, suc, ◌⊎◌, if◌then◌else◌, List, [], ◌∷◌, ◌++◌, map, length, option_to_list, Result, Ok, Err}
 use Rattle.std.specs.Global.{Vec}
 use Rattle.disk_model.specs.declared.change.NamedFile.{NamedFile}
 use Rattle.kernel_model.specs.World.{Boot}
 use Rattle.order_laws.specs.Moves.{Seen, calls}
 use Rattle.order_laws.specs.Orders.{IsOver}
 use Rattle.order_laws.specs.Privacy.{IsPrivate}
+use Rattle.state_search.specs.declared.key.Key.{Key}
 use Rattle.state_search.specs.declared.moves.Found.{Found}
 use Rattle.state_search.specs.declared.moves.Reached.{Reached}
 use Rattle.explored_runs.specs.Booting.{AreFilesOf, boot_of}
 use Rattle.explored_runs.specs.Replays.{seen_after_calls, seen_of}
+use Rattle.explored_runs.specs.StateKeys.{IsKeyOf}
+use Rattle.explored_runs.specs.declared.outcome.Outcome.{Outcome}
 use Rattle.explored_runs.specs.declared.replay.Replay.{Replay}
 use Rattle.explored_runs.specs.declared.runs.After.{After}
 use Rattle.explored_runs.specs.declared.runs.Next.{Next}
 use Rattle.explored_runs.specs.declared.runs.Next.TheVariants.{More, Over}
 use Rattle.explored_runs.specs.declared.runs.Runs.{Runs}
+use Rattle.explored_runs.specs.declared.runs.Tried.{Tried}
+use Rattle.explored_runs.specs.declared.runs.Tried.TheVariants as tried
+use Rattle.explored_runs.specs.declared.visited.VisitedState.{VisitedState}
 
 -- the boot of what is explored, where these files stand on its disk
 abbrev pub boot_in : Runs → List NamedFile → Boot
@@ -29,9 +35,25 @@ pub record IsRunOf (r : Runs) (ps : List ℕ) (x : Replay) : Type 0 where
   pub files : StandOn r x.core.boot.files
   pub limit : x.limit ≡ r.instructions
 
+-- a replay of the run of these calls has this key
+abbrev pub HasKeyOf : Runs → List ℕ → Key → Type 0
+HasKeyOf r ps key = (y : Replay) × IsRunOf r ps y × IsKeyOf y key
+
+-- each of these runs that were answered has the key of its calls
+abbrev pub HaveKeys : Runs → List (Reached (Vec ℕ)) → Type 0
+HaveKeys r [] = Unit {0}
+HaveKeys r (x ∷ xs) = HasKeyOf r x.state.items x.key × HaveKeys r xs
+
+-- and so has the run that was tried, if it was made
+abbrev pub HasTriedKey : Runs → Tried → Type 0
+HasTriedKey r tried.Idle = Unit {0}
+HasTriedKey r (tried.Made x) = HasKeyOf r x.state.items x.key
+HasTriedKey r (tried.Private x) = HasKeyOf r x.state.items x.key
+
 -- the second stands where the first does
 pub record IsCopyOf (x y : Replay) : Type 0 where
   pub seen : seen_of y.core ≡ seen_of x.core
+  pub boot : y.core.boot ≡ x.core.boot
   pub limit : y.limit ≡ x.limit
 
 -- the processes, up to the k-th, whose calls do something
@@ -57,12 +79,18 @@ abbrev pub IsNext : ℕ → Seen → List ℕ → Next → Type 0
 IsNext n s ps (More rs) = AreNext n s ps rs.items × (rs.items ≡ [] → ⊥)
 IsNext n s ps (Over o) = IsOver (calls n) s × (o.calls.items ≡ ps)
 
--- for each of these runs, in their order, it was answered what comes after it
+-- the runs of one call more that are in what was found
+abbrev pub reached_by_next : Next → List (Reached (Vec ℕ))
+reached_by_next (More rs) = rs.items
+reached_by_next (Over o) = []
+
+-- for each of these runs, in their order, it was answered what comes after it, with the keys of the runs of one call more
 abbrev pub AreAfter : Runs → List NamedFile → List (Found (Vec ℕ)) → List After → Type 0
 AreAfter r files [] [] = Unit {0}
 AreAfter r files [] (a ∷ more) = ⊥
 AreAfter r files (f ∷ fs) [] = ⊥
-AreAfter r files (f ∷ fs) (a ∷ more) = IsNext r.instructions (seen_after_calls r.instructions (boot_in r files) f.state.items) f.state.items a.next × AreAfter r files fs more
+AreAfter r files (f ∷ fs) (a ∷ more) = IsNext r.instructions (seen_after_calls r.instructions (boot_in r files) f.state.items) f.state.items a.next
+    × HaveKeys r (reached_by_next a.next) × AreAfter r files fs more
 
 -- what was found by each share, none of which has a fault, is put together
 abbrev pub AreJoined : {E : Type 0} → List (Result (Vec After) E) → List After → Type 0
@@ -70,21 +98,50 @@ AreJoined [] all = all ≡ []
 AreJoined (Ok xs ∷ shares) all = (rest : List After) × (all ≡ xs.items ++ rest) × AreJoined shares rest
 AreJoined (Err why ∷ shares) all = ⊥
 
--- the runs of one call more that are in what was found
-abbrev pub reached_by_next : Next → List (Reached (Vec ℕ))
-reached_by_next (More rs) = rs.items
-reached_by_next (Over o) = []
-
+-- the runs of one call more that are in all that was found
 abbrev pub reached_in : List After → List (Reached (Vec ℕ))
 reached_in [] = []
 reached_in (a ∷ more) = reached_by_next a.next ++ reached_in more
 
--- what came after each of these runs, one after the other
+-- the outcome of a run that is over
+abbrev pub over_by_next : Next → List Outcome
+over_by_next (More rs) = []
+over_by_next (Over o) = o ∷ []
+
+abbrev pub over_in : List After → List Outcome
+over_in [] = []
+over_in (a ∷ more) = over_by_next a.next ++ over_in more
+
+-- the states, where they are visited
+abbrev pub visited_in : List After → List VisitedState
+visited_in [] = []
+visited_in (a ∷ more) = option_to_list a.visited ++ visited_in more
+
+-- by how many calls the search goes on from a run: those that were not dropped for a private one
+abbrev pub calls_by_next : Next → ℕ
+calls_by_next (More rs) = length rs.items
+calls_by_next (Over o) = 0
+
+abbrev pub calls_in : List After → List ℕ
+calls_in [] = []
+calls_in (a ∷ more) = calls_by_next a.next ∷ calls_in more
+
+-- what came after each of these runs, one after the other, each with its key
 abbrev pub AreAnswered : Runs → List NamedFile → List (Found (Vec ℕ)) → List (Reached (Vec ℕ)) → Type 0
 AreAnswered r files [] next = next ≡ []
 AreAnswered r files (f ∷ fs) next = (own : List (Reached (Vec ℕ))) × (rest : List (Reached (Vec ℕ)))
-    × AreNext r.instructions (seen_after_calls r.instructions (boot_in r files) f.state.items) f.state.items own × (next ≡ own ++ rest) × AreAnswered r files fs rest
+    × AreNext r.instructions (seen_after_calls r.instructions (boot_in r files) f.state.items) f.state.items own × HaveKeys r own × (next ≡ own ++ rest)
+    × AreAnswered r files fs rest
 
 -- so a level was answered, whichever files stand on the disk: they are the same in each boot
 abbrev pub Expands : Runs → List (Found (Vec ℕ)) → List (Reached (Vec ℕ)) → Type 0
 Expands r level next = (files : List NamedFile) → StandOn r files → AreAnswered r files level next
+
+-- What is told of these runs is right: of what came after each, in their order, the outcome of each that is over, once; the state of each, where states
+-- are visited; and by how many calls the search goes on from it.
+pub record AreTold (r : Runs) (states : List (Found (Vec ℕ))) (over : List Outcome) (visited : List VisitedState) (calls : List ℕ) : Type 0 where
+  pub afters : List After
+  pub each : (files : List NamedFile) → StandOn r files → AreAfter r files states afters
+  pub over_are : over ≡ over_in afters
+  pub visited_are : visited ≡ visited_in afters
+  pub calls_are : calls ≡ calls_in afters

@@ -8,7 +8,8 @@ use Rattle.order_laws.specs.Orders.{IsComplete, reached}
 use Rattle.order_laws.specs.Outcomes.{AllStand, HasOutcomes, settled}
 use Rattle.order_laws.specs.Privacy.{IsPrivate}
 use Rattle.order_laws.specs.Searches.{Found as FoundSeen, HasState, WentOn}
-use Rattle.state_search.specs.Searches.{Answer, HasKey, IsPart, IsSearched}
+use Rattle.state_search.specs.Searches.{Answer, HasKey, HasPart, HasSearched}
+use Rattle.state_search.specs.Sharing.{IsShared}
 use Rattle.state_search.specs.declared.moves.Found.{Found}
 use Rattle.state_search.specs.declared.moves.Reached.{Reached}
 
@@ -56,12 +57,12 @@ pub record FindsAll {S : Type 0} (n : ℕ) (b : Boot) (seen : S → Seen) (gone_
   pub ends : (ps : List ℕ) → IsComplete (calls n) (start n b) ps → length ps ≤ depth → HasState (seen_in seen (gone_on ++ left)) (reached (calls n) (start n b) ps) (length ps)
   pub outcomes : left ≡ [] → AllStand (seen_in seen (gone_on ++ left)) → (es : List Event) → HasOutcomes n b (seen_in seen (gone_on ++ left)) es
 
--- A search by keys: if it was answered with the calls of a boot, of which each process runs at most n instructions to its next call, and if
--- its keys told its states apart, it found all.
-pub record FindsByKeys {S : Type 0} (begins : Reached S → Type 0) (expands : List (Found S) → List (Reached S) → Type 0) (gone_on left : List (Found S)) (depth : ℕ) : Type 0 where
-  pub searched : IsSearched begins expands gone_on left depth
-  pub finds : (n : ℕ) (b : Boot) (seen : S → Seen) → AnswersCalls n b seen searched.first searched.answers
-      → KeysTell seen searched.first searched.answers (gone_on ++ left) → FindsAll n b seen gone_on left depth
+-- A search by keys, of so many states from which it went on: if it was answered with the calls of a boot, of which each process runs at most n
+-- instructions to its next call, and if its keys told its states apart, it found all.
+pub record FindsByKeys {S : Type 0} (begins : Reached S → Type 0) (expands : List (Found S) → List (Reached S) → Type 0) (many : ℕ) (left : List (Found S)) (depth : ℕ) : Type 0 where
+  pub searched : HasSearched begins expands many left depth
+  pub finds : (n : ℕ) (b : Boot) (seen : S → Seen) → AnswersCalls n b seen searched.part.first searched.part.answers
+      → KeysTell seen searched.part.first searched.part.answers (searched.gone_on ++ left) → FindsAll n b seen searched.gone_on left depth
 
 -- ---- what parts find together
 
@@ -81,8 +82,9 @@ pub record GoesOn {S : Type 0} (n : ℕ) (b : Boot) (seen : S → Seen) (gone_on
 
 -- A part of a search by keys. Let it be answered with the calls of a boot. Let the states of all parts be told apart by keys, and let what the part
 -- found be among them, also what it left to others. Then it goes on to states of all parts. So where each state of all is one from which some part
--- went on, all parts together are a search that left none.
-pub record FindsItsPart {S : Type 0} (begins : Reached S → Type 0) (expands : List (Found S) → List (Reached S) → Type 0) (gone_on left others : List (Found S)) (depth : ℕ) : Type 0 where
-  pub searched : IsPart begins expands gone_on left others depth
-  pub finds : (n : ℕ) (b : Boot) (seen : S → Seen) (all : List (Found S)) → AnswersCalls n b seen searched.first searched.answers
-      → KeysTell seen searched.first searched.answers all → AreFound (others ++ (gone_on ++ left)) all → GoesOn n b seen gone_on all
+-- went on, all parts together are a search that left none. What it left to others is other parts' own of a level that was shared out.
+pub record FindsItsPart {S : Type 0} (begins : Reached S → Type 0) (expands : List (Found S) → List (Reached S) → Type 0) (number of many : ℕ) (left others : List (Found S)) (depth : ℕ) : Type 0 where
+  pub searched : HasPart begins expands many left others depth
+  pub shared : (others ≡ []) ⊎ IsShared begins expands number of searched.gone_on others
+  pub finds : (n : ℕ) (b : Boot) (seen : S → Seen) (all : List (Found S)) → AnswersCalls n b seen searched.part.first searched.part.answers
+      → KeysTell seen searched.part.first searched.part.answers all → AreFound (others ++ (searched.gone_on ++ left)) all → GoesOn n b seen searched.gone_on all

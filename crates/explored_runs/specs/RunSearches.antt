@@ -1,12 +1,13 @@
 -- What a search of runs finds.
-use Rattle.std.specs.Prelude.{◌≡◌, ℕ, List, [], ◌++◌}
+use Rattle.std.specs.Prelude.{◌≡◌, ◌⊎◌, ℕ, List, [], ◌++◌}
 use Rattle.std.specs.Global.{Vec}
 use Rattle.disk_model.specs.declared.change.NamedFile.{NamedFile}
 use Rattle.order_laws.specs.Moves.{Seen}
-use Rattle.state_search.specs.Searches.{IsPart, IsSearched}
+use Rattle.state_search.specs.Searches.{HasPart, HasSearched}
+use Rattle.state_search.specs.Sharing.{IsShared}
 use Rattle.state_search.specs.declared.moves.Found.{Found}
 use Rattle.state_search.specs.declared.moves.Reached.{Reached}
-use Rattle.explored_runs.specs.Answering.{Expands, StandOn, boot_in}
+use Rattle.explored_runs.specs.Answering.{Expands, HasKeyOf, StandOn, boot_in}
 use Rattle.explored_runs.specs.CallSearches.{AreFound, FindsAll, GoesOn, KeysTell}
 use Rattle.explored_runs.specs.Replays.{seen_after_calls}
 use Rattle.explored_runs.specs.declared.runs.Runs.{Runs}
@@ -15,19 +16,21 @@ use Rattle.explored_runs.specs.declared.runs.Runs.{Runs}
 abbrev pub seen_in_runs : Runs → List NamedFile → Vec ℕ → Seen
 seen_in_runs r files v = seen_after_calls r.instructions (boot_in r files) v.items
 
--- what may be answered for the first run, and for those of a level
-abbrev pub IsFirstRun : Reached (Vec ℕ) → Type 0
-IsFirstRun first = first.state.items ≡ []
+-- what may be answered for the first run: that of no calls, with its key
+pub record IsFirstRun (r : Runs) (first : Reached (Vec ℕ)) : Type 0 where
+  pub calls : first.state.items ≡ []
+  pub key : HasKeyOf r [] first.key
 
 -- A search of runs: if its keys told the states of the runs apart, it found all of the boot of its programs.
-pub record FindsRuns (r : Runs) (gone_on left : List (Found (Vec ℕ))) (depth : ℕ) : Type 0 where
-  pub searched : IsSearched IsFirstRun (Expands r) gone_on left depth
-  pub finds : (files : List NamedFile) → StandOn r files → KeysTell (seen_in_runs r files) searched.first searched.answers (gone_on ++ left)
-      → FindsAll r.instructions (boot_in r files) (seen_in_runs r files) gone_on left depth
+pub record FindsRuns (r : Runs) (many : ℕ) (left : List (Found (Vec ℕ))) (depth : ℕ) : Type 0 where
+  pub searched : HasSearched (IsFirstRun r) (Expands r) many left depth
+  pub finds : (files : List NamedFile) → StandOn r files → KeysTell (seen_in_runs r files) searched.part.first searched.part.answers (searched.gone_on ++ left)
+      → FindsAll r.instructions (boot_in r files) (seen_in_runs r files) searched.gone_on left depth
 
 -- A part of a search of runs: let keys tell the states of all parts apart, and let what the part found be among them. Then it goes on to states of all
--- parts.
-pub record FindsPartOfRuns (r : Runs) (gone_on left others : List (Found (Vec ℕ))) (depth : ℕ) : Type 0 where
-  pub searched : IsPart IsFirstRun (Expands r) gone_on left others depth
-  pub finds : (files : List NamedFile) → StandOn r files → (all : List (Found (Vec ℕ))) → KeysTell (seen_in_runs r files) searched.first searched.answers all
-      → AreFound (others ++ (gone_on ++ left)) all → GoesOn r.instructions (boot_in r files) (seen_in_runs r files) gone_on all
+-- parts. What it left to others is other parts' own of a level that was shared out.
+pub record FindsPartOfRuns (r : Runs) (number of many : ℕ) (left others : List (Found (Vec ℕ))) (depth : ℕ) : Type 0 where
+  pub searched : HasPart (IsFirstRun r) (Expands r) many left others depth
+  pub shared : (others ≡ []) ⊎ IsShared (IsFirstRun r) (Expands r) number of searched.gone_on others
+  pub finds : (files : List NamedFile) → StandOn r files → (all : List (Found (Vec ℕ))) → KeysTell (seen_in_runs r files) searched.part.first searched.part.answers all
+      → AreFound (others ++ (searched.gone_on ++ left)) all → GoesOn r.instructions (boot_in r files) (seen_in_runs r files) searched.gone_on all

@@ -19,9 +19,9 @@ pub fn search_calls<M: Moves, R: Threads + Sync>(
     moves: &mut M,
     bounds: Bounds,
 ) -> Result<Searched<M::State>, M::Fault>
-    ensures finds { IfOk result (λ found. FindsByKeys (M.begins (M.space moves.old)) (M.expands (M.space moves.old)) found.gone_on.items found.left.items found.depth) }
-    ensures cut { IfOk result (λ found. IsCut found.gone_on.items found.left.items found.depth bounds) }
-    ensures within { IfOk result (λ found. IsWithin found.gone_on.items found.depth bounds) }
+    ensures finds { IfOk result (λ found. FindsByKeys (M.begins (M.space moves.old)) (M.expands (M.space moves.old)) found.gone_on found.left.items found.depth) }
+    ensures cut { IfOk result (λ found. IsCut found.gone_on found.left.items found.depth bounds) }
+    ensures within { IfOk result (λ found. IsWithin found.gone_on found.depth bounds) }
 {
     match search(rt, alloc, moves, bounds) {
         Ok(searched) => Ok(searched),
@@ -38,9 +38,9 @@ pub fn search_calls_part<M: Moves, R: Threads + Sync>(
     bounds: Bounds,
     part: Part,
 ) -> Result<PartSearched<M::State>, M::Fault>
-    ensures finds { IfOk result (λ found. FindsItsPart (M.begins (M.space moves.old)) (M.expands (M.space moves.old)) found.searched.gone_on.items found.searched.left.items found.others.items found.searched.depth) }
-    ensures cut { IfOk result (λ found. IsCut found.searched.gone_on.items found.searched.left.items found.searched.depth bounds) }
-    ensures within { IfOk result (λ found. IsWithin found.searched.gone_on.items found.searched.depth bounds) }
+    ensures finds { IfOk result (λ found. FindsItsPart (M.begins (M.space moves.old)) (M.expands (M.space moves.old)) part.number part.of found.searched.gone_on found.searched.left.items found.others.items found.searched.depth) }
+    ensures cut { IfOk result (λ found. IsCut found.searched.gone_on found.searched.left.items found.searched.depth bounds) }
+    ensures within { IfOk result (λ found. IsWithin found.searched.gone_on found.searched.depth bounds) }
 {
     match search_part(rt, alloc, moves, bounds, part) {
         Ok(found) => Ok(found),

@@ -1,4 +1,7 @@
 //! All outcomes of programs: the search, and what it prints.
+ghost use Rattle.std.specs.Prelude.{OnOk};
+ghost use Rattle.explored_runs.specs.Explored.{Explored, SearchedAll, SearchedPart};
+
 use crate::findings::{Findings, Wanted, print_outcome};
 use crate::limits::Limits;
 use crate::outcome::Outcome;
@@ -9,6 +12,7 @@ use crate::runs::Runs;
 use crate::saved::{script_of, setup_lines};
 use crate::summed::Summed;
 use crate::totals::Totals;
+use crate::visited::Visits;
 use faults::{Fault, at_path};
 use progress::{Progress, ProgressCount};
 use scripts::{Setup, write_setup};
@@ -119,8 +123,9 @@ impl<R: Files + AllocGlobal, O: Write, E: Write> Printer<'_, '_, '_, '_, '_, R, 
 impl<R: Files + AllocGlobal, O: Write, E: Write> Listener for Printer<'_, '_, '_, '_, '_, R, O, E> {
     type Fault = Fault;
 
-    fn hear<T: Threads + Sync>(&mut self, _rt: &T, heard: Heard<'_>) -> Result<(), Fault> {
+    fn hear<T: Threads + Sync>(&mut self, _rt: &T, heard: Heard<'_, '_>) -> Result<(), Fault> {
         let Heard {
+            runs: _,
             states,
             calls,
             mut over,
@@ -157,7 +162,9 @@ impl<R: Files + AllocGlobal + Threads + Sync, O: Write, E: Write> Printer<
     E,
 > {
     /// Searches all, and prints how many states, calls and outcomes there were. Refused where not all was explored.
-    fn search_whole(&mut self, limits: Limits) -> Result<(), Fault> {
+    fn search_whole(&mut self, limits: Limits) -> Result<(), Fault>
+        ensures { OnOk result (SearchedAll self.old.runs.now) }
+    {
         let (rt, runs) = (self.rt, self.runs);
         let searched = search_runs(rt, runs, limits.threads(rt), self, limits.bounds())?;
         let totals = Totals::of(&searched);
@@ -166,7 +173,9 @@ impl<R: Files + AllocGlobal + Threads + Sync, O: Write, E: Write> Printer<
     }
 
     /// Searches a part, whose file is printed. Refused where the part did not explore all that is its own.
-    fn search_part(&mut self, limits: Limits, head: PartHead) -> Result<(), Fault> {
+    fn search_part(&mut self, limits: Limits, head: PartHead) -> Result<(), Fault>
+        ensures { OnOk result (SearchedPart self.old.runs.now head.part) }
+    {
         write_head(head, &mut self.out)?;
         let (rt, runs) = (self.rt, self.runs);
         let found = search_runs_part(
@@ -204,7 +213,9 @@ pub fn explore_orders<R: Files + AllocGlobal + Threads + Sync, O: Write, E: Writ
     wanted: Wanted<'_>,
     out: &mut O,
     err: &mut E,
-) -> Result<(), Fault> {
+) -> Result<(), Fault>
+    ensures { OnOk result (Explored limits.instructions limits.part) }
+{
     let alloc = rt.alloc();
     let findings = Findings::new(alloc, wanted.expected)?;
     let programs = Programs::of_setup(rt, setup)?;
@@ -213,7 +224,7 @@ pub fn explore_orders<R: Files + AllocGlobal + Threads + Sync, O: Write, E: Writ
         alloc,
         programs: &programs,
         instructions: limits.instructions,
-        visits: false,
+        visits: Visits::Nothing,
     };
     let mut printer = Printer {
         rt,

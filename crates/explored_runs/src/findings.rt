@@ -1,4 +1,6 @@
 //! The outcomes that were found so far.
+ghost use Rattle.std.specs.Prelude.{◌≡◌};
+
 use crate::expectations::expectations_of;
 use crate::outcome::Outcome;
 use faults::{ExplorationFault, Fault};
@@ -79,7 +81,9 @@ impl<'a> Findings<'a> {
     }
 
     /// The first outcome in which a process runs on, by its number.
-    pub fn runs_on(&self) -> Option<u64> {
+    pub fn runs_on(&self) -> Option<u64>
+        ensures { result ≡ self.now.runs_on }
+    {
         self.runs_on
     }
 }

@@ -3,7 +3,8 @@
 //! Read `explore_orders` first. `runs` says which runs a call leads to: `programs` are booted, `replay` does the calls of a run on a core by
 //! `core_calls`, `private` finds calls that may be tried alone, and `state_key` tells runs apart. `run_search` has `state_search` search them: a `crew` of
 //! threads shares each level, and whoever listens is told what was found, as `sorting` sorts it out. What a run comes to is an `outcome`, kept once by `findings`. `call_search` says of any such search what it finds. A part of
-//! a search prints a `part_file`, and `merge_parts` puts those of all parts together. `explore_states` hands out the states themselves.
+//! a search prints a `part_file`, and `merge_parts` puts those of all parts together. `explore_states` hands out the states
+//! themselves, and the `windows` between syncs.
 #![tactic(auto)]
 
 mod call_search;
@@ -35,6 +36,7 @@ mod summed;
 mod totals;
 mod visited;
 mod visiting;
+mod windows;
 
 pub use call_search::{search_calls, search_calls_part};
 pub use exploring::explore_orders;
@@ -44,5 +46,5 @@ pub use merging::merge_parts;
 pub use part_fault::MergeFault;
 pub use state_search::Part;
 pub use totals::Totals;
-pub use visited::VisitedState;
+pub use visited::{VisitedState, Visits};
 pub use visiting::{ExploredStates, StateTaker, end_of_calls, explore_states, lines_of_calls};

@@ -1,6 +1,7 @@
 //! Puts the parts of an exploration together.
-ghost use Rattle.std.specs.Prelude.{IfOk};
-ghost use Rattle.explored_runs.specs.PartFiles.{AreOfOne};
+ghost use Rattle.std.specs.Prelude.{◌≡◌, ◌-◌, ◌++◌, None, Some, true, false, not, replicate, slice_get, slice_set, IfOk, OnOk};
+ghost use Rattle.std.specs.List.{position};
+ghost use Rattle.explored_runs.specs.PartFiles.{AreOfOne, IsNoted};
 
 use crate::findings::{Findings, print_outcome};
 use crate::levels::levels_of;
@@ -52,6 +53,37 @@ fn test_same(first: PartHead, head: PartHead) -> Result<(), PartFault>
     Ok(())
 }
 
+/// So many parts, of which none was read yet, beside these.
+fn add_unread(read: &mut Vec<bool>, parts: u64) -> Result<(), AllocError>
+    ensures { OnOk result (read.new.items ≡ read.old.items ++ replicate parts false) }
+{
+    for _ in 0..parts {
+        read.push(false)?;
+    }
+    Ok(())
+}
+
+/// Marks the part of this number as read. Refused is one that was read already, or that is not there.
+fn mark_read(read: &mut Vec<bool>, number: u64) -> Result<(), PartFault>
+    ensures fresh { OnOk result (slice_get read.old.items (number - 1) ≡ Some false) }
+    ensures marked { OnOk result (read.new.items ≡ slice_set read.old.items (number - 1) true) }
+{
+    match read.get_mut(number.saturating_sub(1) as usize) {
+        Some(is_read) if !*is_read => {
+            *is_read = true;
+            Ok(())
+        }
+        _ => Err(PartFault::Twice),
+    }
+}
+
+/// The place of the first part that was not read.
+fn first_missing(read: &[bool]) -> Option<usize>
+    ensures { result ≡ position not read.now }
+{
+    read.iter().position(|is_read| !*is_read)
+}
+
 impl Merging {
     fn new(alloc: Global) -> Merging {
         Merging {
@@ -63,24 +95,17 @@ impl Merging {
     }
 
     /// Notes which part is read. Refused is one of something else, and one that was read already.
-    fn note(&mut self, head: PartHead) -> Result<(), PartFault> {
+    fn note(&mut self, head: PartHead) -> Result<(), PartFault>
+        ensures { OnOk result (IsNoted self.old.first self.old.read.items head self.new.first self.new.read.items) }
+    {
         match self.first {
             Some(first) => test_same(first, head)?,
             None => {
-                for _ in 0..head.part.of {
-                    self.read.push(false)?;
-                }
+                add_unread(&mut self.read, head.part.of)?;
                 self.first = Some(head);
             }
         }
-        let place = head.part.number.saturating_sub(1) as usize;
-        match self.read.get_mut(place) {
-            Some(is_read) if !*is_read => {
-                *is_read = true;
-                Ok(())
-            }
-            _ => Err(PartFault::Twice),
-        }
+        mark_read(&mut self.read, head.part.number)
     }
 
     fn add(&mut self, file: PartFile) -> Result<(), PartFault> {
@@ -99,8 +124,10 @@ impl Merging {
     }
 
     /// Refuses a part that is missing.
-    fn test_all_read(&self) -> Result<(), MergeFault> {
-        match self.read.iter().position(|is_read| !*is_read) {
+    fn test_all_read(&self) -> Result<(), MergeFault>
+        ensures { OnOk result (position not self.now.read.items ≡ None) }
+    {
+        match first_missing(self.read.as_slice()) {
             Some(place) => Err(MergeFault::Missing {
                 number: (place as u64).saturating_add(1),
                 of: self.read.len() as u64,

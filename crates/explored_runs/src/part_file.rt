@@ -71,7 +71,7 @@ pub fn write_head<O: Write>(head: PartHead, out: &mut O) -> io::Result<()> {
     )
 }
 
-/// A state from which the part went on: its key, how many calls lead there, and how many were tried that do something.
+/// A state from which the part went on: its key, how many calls lead there, and by how many the search went on from it.
 pub fn write_state<O: Write>(found: &Found<Vec<u32>>, calls: usize, out: &mut O) -> io::Result<()> {
     let (key, moves) = (KeyText(found.key), found.moves);
     writeln!(out, "state {key} {moves} {calls}")

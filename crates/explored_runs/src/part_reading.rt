@@ -19,7 +19,7 @@ pub struct PartState {
     pub moves: u64,
     /// Whether the part left it.
     pub is_left: bool,
-    /// How many calls were tried in it that do something.
+    /// By how many calls the search went on from it.
     pub calls: u64,
 }
 

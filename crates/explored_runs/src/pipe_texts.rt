@@ -1,4 +1,8 @@
 //! All bytes that were ever written to pipes. The core keeps those alone that are not read yet.
+ghost use Rattle.std.specs.Prelude.{◌≡◌, map, IfOk};
+ghost use Rattle.explored_runs.specs.Copies.{text_in};
+ghost use Rattle.explored_runs.specs.StateKeys.{written_in};
+
 use kernel::KernelTables;
 use pipes::Pipe;
 use std::alloc::{AllocError, Global};
@@ -16,6 +20,20 @@ struct PipeText {
 pub struct PipeTexts {
     alloc: Global,
     texts: Vec<PipeText>,
+}
+
+/// The same texts once more.
+fn text_copies(alloc: Global, texts: &[PipeText]) -> Result<Vec<PipeText>, AllocError>
+    ensures { IfOk result (λ copies. map text_in copies.items ≡ map text_in texts.now) }
+{
+    let mut copies = Vec::new(alloc);
+    for text in texts {
+        copies.push(PipeText {
+            written: Vec::from_slice(alloc, text.written.as_slice())?,
+            held: text.held,
+        })?;
+    }
+    Ok(copies)
 }
 
 impl PipeTexts {
@@ -69,22 +87,19 @@ impl PipeTexts {
     }
 
     /// The same once more.
-    pub fn try_clone(&self) -> Result<PipeTexts, AllocError> {
-        let mut texts = Vec::with_capacity(self.alloc, self.texts.len())?;
-        for text in &self.texts {
-            texts.push(PipeText {
-                written: Vec::from_slice(self.alloc, text.written.as_slice())?,
-                held: text.held,
-            })?;
-        }
+    pub fn try_clone(&self) -> Result<PipeTexts, AllocError>
+        ensures { IfOk result (λ copy. map text_in copy.texts.items ≡ map text_in self.now.texts.items) }
+    {
         Ok(PipeTexts {
             alloc: self.alloc,
-            texts,
+            texts: text_copies(self.alloc, self.texts.as_slice())?,
         })
     }
 
     /// What was written to the pipe of a number.
-    pub fn written(&self, number: usize) -> &[u8] {
+    pub fn written(&self, number: usize) -> &[u8]
+        ensures { result.now ≡ written_in self.now.texts.items number }
+    {
         match self.texts.get(number) {
             Some(text) => text.written.as_slice(),
             None => &[],

@@ -1,9 +1,10 @@
 //! A run that is replayed, call by call.
-ghost use Rattle.std.specs.Prelude.{◌≡◌, [], true, length, IfOk, OnOk};
+ghost use Rattle.std.specs.Prelude.{◌≡◌, [], true, length, map, IfOk, OnOk};
 ghost use Rattle.kernel_model.specs.Answers.{Kernel, now, with_event};
 ghost use Rattle.kernel_model.specs.declared.event.Event.TheVariants.{Enter};
 ghost use Rattle.order_laws.specs.Moves.{calls, label_in, writes_some};
 ghost use Rattle.explored_runs.specs.CallSearches.{start};
+ghost use Rattle.explored_runs.specs.Copies.{text_in};
 ghost use Rattle.explored_runs.specs.Owning.{GoesTo};
 ghost use Rattle.explored_runs.specs.Replays.{IsRightly, does_something, seen_of};
 
@@ -11,6 +12,9 @@ use crate::core_calls::{enter, last_process, run_all, run_on_after};
 use crate::pipe_texts::PipeTexts;
 use crate::private::{MadeCall, is_private, last_reads, terminal_of};
 use crate::reply_sums::{Asked, ReplySums};
+use crate::windows::{copy_of, first_window, note_call};
+use crash_lists::Window;
+use crash_outcomes::stands_at_sync;
 use faults::Fault;
 use kernel::Core;
 use std::alloc::Global;
@@ -32,13 +36,20 @@ pub struct Replay {
     pub core: Core,
     pub pipes: PipeTexts,
     pub replies: ReplySums,
+    /// The files since the last sync, if windows are kept.
+    pub window: Option<Window>,
     /// How many instructions a process runs at most to its next call.
     limit: u32,
 }
 
 impl Replay {
     /// A core that has just been booted, where each process runs to where it first stops.
-    pub fn begin(alloc: Global, core: Core, limit: u32) -> Result<Replay, Fault>
+    pub fn begin(
+        alloc: Global,
+        core: Core,
+        limit: u32,
+        keeps_windows: bool,
+    ) -> Result<Replay, Fault>
         requires { core.history ≡ [] }
         ensures seen { IfOk result (λ replay. seen_of replay.core ≡ start limit core.boot) }
         ensures boot { IfOk result (λ replay. replay.core.boot ≡ core.boot) }
@@ -46,10 +57,12 @@ impl Replay {
     {
         let mut core = core;
         run_all(&mut core, limit)?;
+        let window = first_window(alloc, &core, keeps_windows)?;
         Ok(Replay {
             core,
             pipes: PipeTexts::new(alloc),
             replies: ReplySums::new(alloc),
+            window,
             limit,
         })
     }
@@ -57,12 +70,15 @@ impl Replay {
     /// The same replay once more, on a copy of its core.
     pub fn try_clone(&self, alloc: Global) -> Result<Replay, Fault>
         ensures core { IfOk result (λ copy. copy.core ≡ self.now.core) }
+        ensures pipes { IfOk result (λ copy. map text_in copy.pipes.texts.items ≡ map text_in self.now.pipes.texts.items) }
+        ensures replies { IfOk result (λ copy. copy.replies.sums.items ≡ self.now.replies.sums.items) }
         ensures limit { IfOk result (λ copy. copy.limit ≡ self.now.limit) }
     {
         Ok(Replay {
             core: self.core.try_clone(alloc)?,
             pipes: self.pipes.try_clone()?,
             replies: self.replies.try_clone()?,
+            window: copy_of(alloc, &self.window)?,
             limit: self.limit,
         })
     }
@@ -74,12 +90,26 @@ impl Replay {
         last_process(&self.core)
     }
 
-    /// What was just called, before its process runs on. It may have written to this terminal.
-    fn kind_of(&self, pid: u32, terminal: Option<u32>) -> Called
+    /// Whether some process stands at a sync, which it is to make.
+    pub fn is_at_sync(&self) -> bool {
+        for pid in 1..=self.last_process() {
+            if stands_at_sync(&self.core, pid) {
+                return true;
+            }
+        }
+        false
+    }
+
+    /// What was just called, before its process runs on. It may have written to this terminal. Where windows are kept a sync is not made
+    /// privately: it ends the window of all processes.
+    fn kind_of(&self, pid: u32, terminal: Option<u32>, is_sync: bool) -> Called
         ensures made { does_something result ≡ true }
         ensures rightly { (k : Kernel) → self.now.core ≡ with_event k (Enter pid) → writes_some (label_in (seen_of k) (Enter pid)) ≡ true
             → GoesTo terminal (label_in (seen_of k) (Enter pid)).output → IsRightly result (seen_of k) pid }
     {
+        if is_sync && self.window.is_some() {
+            return Called::Made;
+        }
         let call = MadeCall {
             owner: pid,
             reads: last_reads(self.core.footprints()),
@@ -103,12 +133,14 @@ impl Replay {
         let last = self.last_process();
         let terminal = terminal_of(&self.core, pid);
         let asked = Asked::by(&self.core, pid);
+        let is_sync = stands_at_sync(&self.core, pid);
         if !enter(&mut self.core, pid)? {
             return Ok(Called::Idle);
         }
         self.pipes.note(self.core.tables())?;
         self.replies.note(&self.core, pid, asked)?;
-        let called = self.kind_of(pid, terminal);
+        note_call(&mut self.window, &self.core, is_sync)?;
+        let called = self.kind_of(pid, terminal, is_sync);
         run_on_after(&mut self.core, pid, last, self.limit)?;
         Ok(called)
     }

@@ -1,4 +1,7 @@
 //! Sums of the replies that processes got. A core hands out those alone that rest on committed changes.
+ghost use Rattle.std.specs.Prelude.{◌≡◌, IfOk};
+ghost use Rattle.explored_runs.specs.StateKeys.{sum_in};
+
 use crate::private::last_reads;
 use crate::state_digest::StateDigest;
 use call_forms::Call;
@@ -117,7 +120,9 @@ impl ReplySums {
         }
     }
 
-    pub fn try_clone(&self) -> Result<ReplySums, AllocError> {
+    pub fn try_clone(&self) -> Result<ReplySums, AllocError>
+        ensures { IfOk result (λ copy. copy.sums.items ≡ self.now.sums.items) }
+    {
         Ok(ReplySums {
             alloc: self.alloc,
             sums: Vec::from_slice(self.alloc, self.sums.as_slice())?,
@@ -125,7 +130,9 @@ impl ReplySums {
     }
 
     /// The sum of all replies to a process.
-    pub fn of(&self, pid: u32) -> Key {
+    pub fn of(&self, pid: u32) -> Key
+        ensures { result ≡ sum_in self.now.sums.items pid }
+    {
         match self.sums.get((pid as usize).saturating_sub(1)) {
             Some(sum) => *sum,
             None => NONE,

@@ -1,7 +1,7 @@
 //! The search of runs, whoever is told what it finds.
 ghost use Rattle.std.specs.Prelude.{◌≡◌, ◌++◌, [], ◌<◌, length, true, IfOk};
 ghost use Rattle.state_search.specs.Searches.{IsCut, IsWithin};
-ghost use Rattle.explored_runs.specs.Answering.{Expands};
+ghost use Rattle.explored_runs.specs.Answering.{AreTold, Expands};
 ghost use Rattle.explored_runs.specs.RunSearches.{FindsPartOfRuns, FindsRuns, IsFirstRun};
 
 use crate::call_search::{search_calls, search_calls_part};
@@ -18,9 +18,11 @@ use std::thread::Threads;
 
 /// Some states of a level, and what was found of them, in their order.
 #[derive(Drop)]
-pub struct Heard<'a> {
+pub struct Heard<'a, 'p> {
+    /// Of which runs they are.
+    pub runs: &'a Runs<'p>,
     pub states: &'a [Found<Vec<u32>>],
-    /// For each, how many calls were tried that do something.
+    /// For each, by how many calls the search goes on.
     pub calls: Vec<usize>,
     /// The outcomes of those that are over.
     pub over: Vec<Outcome>,
@@ -33,13 +35,15 @@ pub struct Heard<'a> {
 /// Who is told what a search of runs finds.
 pub trait Listener {
     ghost use denote.Param.Send.{IsSync};
+    ghost use Rattle.explored_runs.specs.Answering.{AreTold};
 
     /// Why the search ends before its end.
     type Fault: From<Fault> + From<AllocError> + Drop;
 
     /// Is told of the next states. Threads may share the work.
-    fn hear<R: Threads + Sync>(&mut self, rt: &R, heard: Heard<'_>) -> Result<(), Self::Fault>
-        requires { IsSync R.row };
+    fn hear<R: Threads + Sync>(&mut self, rt: &R, heard: Heard<'_, '_>) -> Result<(), Self::Fault>
+        requires sync { IsSync R.row }
+        requires told { AreTold heard.runs.now heard.states.now heard.over.items heard.visited.items heard.calls.items };
 
     /// Is told that a level is done.
     fn end_level(&mut self) -> Result<(), Self::Fault>;
@@ -71,6 +75,21 @@ fn parted(states: &[Found<Vec<u32>>], most: usize) -> (&[Found<Vec<u32>>], &[Fou
     states.split_at(most.max(1).min(states.len()))
 }
 
+/// Asks what comes after some states, and sorts it out.
+fn ask<R: Threads + Sync>(
+    rt: &R,
+    runs: &Runs<'_>,
+    threads: usize,
+    states: &[Found<Vec<u32>>],
+) -> Result<Sorted, Fault>
+    ensures answered { IfOk result (λ sorted. Expands runs.now states.now sorted.reached.items) }
+    ensures told { IfOk result (λ sorted. AreTold runs.now states.now sorted.over.items sorted.visited.items sorted.calls.items) }
+{
+    let afters = after_each(rt, runs, threads, states)?;
+    let sorted = sort_out(runs.alloc, afters)?;
+    Ok(sorted)
+}
+
 impl<'p, L: Listener> Moves for RunSearch<'_, 'p, '_, L> {
     type State = Vec<u32>;
 
@@ -80,7 +99,7 @@ impl<'p, L: Listener> Moves for RunSearch<'_, 'p, '_, L> {
 
     ghost space = { λ s. s.runs.now };
 
-    ghost begins = { λ _ first. IsFirstRun first };
+    ghost begins = { λ r first. IsFirstRun r first };
 
     ghost expands = { λ r level next. Expands r level next };
 
@@ -97,17 +116,17 @@ impl<'p, L: Listener> Moves for RunSearch<'_, 'p, '_, L> {
         let mut rest = level;
         while !rest.is_empty() {
             let (states, later) = parted(rest, taken_by(self.threads));
-            let afters = after_each(rt, self.runs, self.threads, states)?;
             let Sorted {
                 mut reached,
                 over,
                 visited,
                 calls,
-            } = sort_out(self.runs.alloc, afters)?;
+            } = ask(rt, self.runs, self.threads, states)?;
             next.append(&mut reached)?;
             self.listener.hear(
                 rt,
                 Heard {
+                    runs: self.runs,
                     states,
                     calls,
                     over,
@@ -131,9 +150,9 @@ pub fn search_runs<R: Threads + Sync, L: Listener>(
     listener: &mut L,
     bounds: Bounds,
 ) -> Result<Searched<Vec<u32>>, L::Fault>
-    ensures finds { IfOk result (λ found. FindsRuns runs.now found.gone_on.items found.left.items found.depth) }
-    ensures cut { IfOk result (λ found. IsCut found.gone_on.items found.left.items found.depth bounds) }
-    ensures within { IfOk result (λ found. IsWithin found.gone_on.items found.depth bounds) }
+    ensures finds { IfOk result (λ found. FindsRuns runs.now found.gone_on found.left.items found.depth) }
+    ensures cut { IfOk result (λ found. IsCut found.gone_on found.left.items found.depth bounds) }
+    ensures within { IfOk result (λ found. IsWithin found.gone_on found.depth bounds) }
 {
     let mut search = RunSearch {
         runs,
@@ -156,9 +175,9 @@ pub fn search_runs_part<R: Threads + Sync, L: Listener>(
     bounds: Bounds,
     part: Part,
 ) -> Result<PartSearched<Vec<u32>>, L::Fault>
-    ensures finds { IfOk result (λ found. FindsPartOfRuns runs.now found.searched.gone_on.items found.searched.left.items found.others.items found.searched.depth) }
-    ensures cut { IfOk result (λ found. IsCut found.searched.gone_on.items found.searched.left.items found.searched.depth bounds) }
-    ensures within { IfOk result (λ found. IsWithin found.searched.gone_on.items found.searched.depth bounds) }
+    ensures finds { IfOk result (λ found. FindsPartOfRuns runs.now part.number part.of found.searched.gone_on found.searched.left.items found.others.items found.searched.depth) }
+    ensures cut { IfOk result (λ found. IsCut found.searched.gone_on found.searched.left.items found.searched.depth bounds) }
+    ensures within { IfOk result (λ found. IsWithin found.searched.gone_on found.searched.depth bounds) }
 {
     let mut search = RunSearch {
         runs,

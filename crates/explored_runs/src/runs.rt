@@ -1,14 +1,16 @@
 //! Runs as a search sees them. A run is the processes whose calls lead to it, and is replayed on a copy of a core that was booted.
 ghost use Rattle.std.specs.Prelude.{◌≡◌, ◌∷◌, ◌++◌, [], List, true, false, IfOk};
 ghost use Rattle.disk_model.specs.declared.change.NamedFile.{NamedFile};
-ghost use Rattle.explored_runs.specs.Answering.{IsCopyOf, IsNext, IsRunOf, StandOn, boot_in};
+ghost use Rattle.explored_runs.specs.Answering.{HasTriedKey, HaveKeys, IsCopyOf, IsNext, IsRunOf, StandOn, boot_in, calls_by_next, reached_by_next};
 ghost use Rattle.explored_runs.specs.Replays.{IsTried, is_idle, seen_after_calls, seen_of};
+ghost use Rattle.explored_runs.specs.RunSearches.{IsFirstRun};
+ghost use Rattle.explored_runs.specs.StateKeys.{IsKeyOf};
 
 use crate::outcome::{Outcome, outcome_of};
 use crate::programs::Programs;
 use crate::replay::{Called, Replay};
 use crate::state_key::key_of;
-use crate::visited::VisitedState;
+use crate::visited::{VisitedState, Visits};
 use faults::Fault;
 use state_search::Reached;
 use std::alloc::{AllocError, Global};
@@ -31,8 +33,10 @@ pub struct After {
 }
 
 impl Next {
-    /// How many calls were tried that do something.
-    pub fn calls(&self) -> usize {
+    /// By how many calls the search goes on: of those that do something, or a private one alone.
+    pub fn calls(&self) -> usize
+        ensures { result ≡ calls_by_next self.now }
+    {
         match self {
             Next::More(reached) => reached.len(),
             Next::Over(_) => 0,
@@ -47,8 +51,8 @@ pub struct Runs<'a> {
     pub programs: &'a Programs,
     /// How many instructions a process runs at most to its next call.
     pub instructions: u32,
-    /// Whether states are visited.
-    pub visits: bool,
+    /// What is visited.
+    pub visits: Visits,
 }
 
 /// What came of trying a call after a run.
@@ -78,7 +82,8 @@ fn reached_by(
     pid: u32,
     replay: &Replay,
 ) -> Result<Reached<Vec<u32>>, AllocError>
-    ensures { IfOk result (λ reached. reached.state.items ≡ calls.now ++ pid ∷ []) }
+    ensures calls { IfOk result (λ reached. reached.state.items ≡ calls.now ++ pid ∷ []) }
+    ensures key { IfOk result (λ reached. IsKeyOf replay.now reached.key) }
 {
     Ok(Reached {
         key: key_of(replay),
@@ -94,13 +99,26 @@ fn alone(alloc: Global, reached: Reached<Vec<u32>>) -> Result<Vec<Reached<Vec<u3
     Ok(all)
 }
 
+/// The state of a run after which this comes, if it is visited. It has its window where that ends there.
+fn as_it_ends(
+    visited: Option<VisitedState>,
+    is_at_sync: bool,
+    next: &Next,
+) -> Option<VisitedState> {
+    match visited {
+        Some(state) => Some(state.with_window_if(is_at_sync || matches!(next, Next::Over(_)))),
+        None => None,
+    }
+}
+
 impl Runs<'_> {
     /// Boots: the run of no calls.
     pub fn begin(&self) -> Result<Replay, Fault>
         ensures { IfOk result (IsRunOf self.now []) }
     {
         let core = self.programs.boot(self.alloc)?;
-        let replay = Replay::begin(self.alloc, core, self.instructions)?;
+        let keeps_windows = self.visits == Visits::Windows;
+        let replay = Replay::begin(self.alloc, core, self.instructions, keeps_windows)?;
         Ok(replay)
     }
 
@@ -127,7 +145,7 @@ impl Runs<'_> {
 
     /// The run of no calls.
     pub fn first(&self) -> Result<Reached<Vec<u32>>, Fault>
-        ensures { IfOk result (λ first. first.state.items ≡ []) }
+        ensures { IfOk result (IsFirstRun self.now) }
     {
         let start = self.begin()?;
         Ok(Reached {
@@ -142,6 +160,7 @@ impl Runs<'_> {
         ensures idle { IfOk result (λ tried. is_idle tried ≡ true → seen_of replay.new.core ≡ seen_of replay.old.core) }
         ensures boot { IfOk result (λ tried. is_idle tried ≡ true → replay.new.core.boot ≡ replay.old.core.boot) }
         ensures limit { IfOk result (λ tried. is_idle tried ≡ true → replay.new.limit ≡ replay.old.limit) }
+        ensures key { IfOk result (λ tried. IsRunOf self.now calls.now replay.old → HasTriedKey self.now tried) }
     {
         match replay.call(pid)? {
             Called::Idle => Ok(Tried::Idle),
@@ -154,7 +173,7 @@ impl Runs<'_> {
 
     /// The state of a run that was replayed, where states are visited.
     fn visited(&self, calls: &[u32], replay: &Replay) -> Result<Option<VisitedState>, Fault> {
-        if !self.visits {
+        if self.visits == Visits::Nothing {
             return Ok(None);
         }
         Ok(Some(VisitedState::of(self.alloc, calls, replay)?))
@@ -163,18 +182,22 @@ impl Runs<'_> {
     /// What is found of the run of these calls, where this is the run of none.
     pub fn after(&self, start: &Replay, calls: &[u32]) -> Result<After, Fault>
         requires { IsRunOf self.now [] start.now }
-        ensures { IfOk result (λ after. (files : List NamedFile) → StandOn self.now files
+        ensures next { IfOk result (λ after. (files : List NamedFile) → StandOn self.now files
             → IsNext self.now.instructions (seen_after_calls self.now.instructions (boot_in self.now files) calls.now) calls.now after.next) }
+        ensures keys { IfOk result (λ after. HaveKeys self.now (reached_by_next after.next)) }
     {
         let replay = self.replay_on(start, calls)?;
+        let visited = self.visited(calls, &replay)?;
+        let is_at_sync = replay.is_at_sync();
+        let next = self.next(calls, replay)?;
         Ok(After {
-            visited: self.visited(calls, &replay)?,
-            next: self.next(calls, replay)?,
+            visited: as_it_ends(visited, is_at_sync, &next),
+            next,
         })
     }
 
-    /// A copy of a replay: this one, unless a call was made in it.
-    fn unused(&self, replay: &Replay, copy: Replay, is_used: bool) -> Result<Replay, Fault>
+    /// A copy of a replay in which no call was made: this one, unless one was made in it.
+    fn fresh_copy(&self, replay: &Replay, copy: Replay, is_used: bool) -> Result<Replay, Fault>
         requires { is_used ≡ false → IsCopyOf replay.now copy }
         ensures { IfOk result (IsCopyOf replay.now) }
     {
@@ -189,13 +212,14 @@ impl Runs<'_> {
     /// does. Each call is made on a copy of this run, which is that of these calls.
     fn next(&self, calls: &[u32], replay: Replay) -> Result<Next, Fault>
         requires { replay.limit ≡ self.now.instructions }
-        ensures { IfOk result (IsNext self.now.instructions (seen_of replay.core) calls.now) }
+        ensures next { IfOk result (IsNext self.now.instructions (seen_of replay.core) calls.now) }
+        ensures keys { IfOk result (λ next. IsRunOf self.now calls.now replay → HaveKeys self.now (reached_by_next next)) }
     {
         let mut copy = replay.try_clone(self.alloc)?;
         let mut reached = Vec::new(self.alloc);
         let mut is_used = false;
         for place in 0..replay.last_process() {
-            copy = self.unused(&replay, copy, is_used)?;
+            copy = self.fresh_copy(&replay, copy, is_used)?;
             is_used = false;
             match self.try_call(&mut copy, calls, place + 1)? {
                 Tried::Idle => {}

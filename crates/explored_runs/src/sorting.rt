@@ -1,6 +1,6 @@
 //! What was found of runs, sorted out.
-ghost use Rattle.std.specs.Prelude.{◌≡◌, IfOk};
-ghost use Rattle.explored_runs.specs.Answering.{reached_in};
+ghost use Rattle.std.specs.Prelude.{◌≡◌, ◌++◌, IfOk, OnOk, option_to_list};
+ghost use Rattle.explored_runs.specs.Answering.{calls_in, over_by_next, over_in, reached_by_next, reached_in, visited_in};
 
 use crate::outcome::Outcome;
 use crate::runs::{After, Next};
@@ -17,13 +17,40 @@ pub struct Sorted {
     pub over: Vec<Outcome>,
     /// Their states, where states are visited.
     pub visited: Vec<VisitedState>,
-    /// For each run, how many calls were tried that do something.
+    /// For each run, by how many calls the search goes on.
     pub calls: Vec<usize>,
+}
+
+fn add_state(visited: &mut Vec<VisitedState>, state: Option<VisitedState>) -> Result<(), AllocError>
+    ensures { OnOk result (visited.new.items ≡ visited.old.items ++ option_to_list state) }
+{
+    if let Some(state) = state {
+        visited.push(state)?;
+    }
+    Ok(())
+}
+
+fn add_next(
+    reached: &mut Vec<Reached<Vec<u32>>>,
+    over: &mut Vec<Outcome>,
+    next: Next,
+) -> Result<(), AllocError>
+    ensures reached { OnOk result (reached.new.items ≡ reached.old.items ++ reached_by_next next) }
+    ensures over { OnOk result (over.new.items ≡ over.old.items ++ over_by_next next) }
+{
+    match next {
+        Next::More(mut more) => reached.append(&mut more)?,
+        Next::Over(outcome) => over.push(outcome)?,
+    }
+    Ok(())
 }
 
 /// Sorts out what was found of some runs.
 pub fn sort_out(alloc: Global, afters: Vec<After>) -> Result<Sorted, AllocError>
-    ensures { IfOk result (λ sorted. sorted.reached.items ≡ reached_in afters.items) }
+    ensures reached { IfOk result (λ sorted. sorted.reached.items ≡ reached_in afters.items) }
+    ensures over { IfOk result (λ sorted. sorted.over.items ≡ over_in afters.items) }
+    ensures visited { IfOk result (λ sorted. sorted.visited.items ≡ visited_in afters.items) }
+    ensures calls { IfOk result (λ sorted. sorted.calls.items ≡ calls_in afters.items) }
 {
     let mut reached = Vec::new(alloc);
     let mut over = Vec::new(alloc);
@@ -34,13 +61,8 @@ pub fn sort_out(alloc: Global, afters: Vec<After>) -> Result<Sorted, AllocError>
         next,
     } in afters {
         calls.push(next.calls())?;
-        if let Some(state) = state {
-            visited.push(state)?;
-        }
-        match next {
-            Next::More(mut more) => reached.append(&mut more)?,
-            Next::Over(outcome) => over.push(outcome)?,
-        }
+        add_state(&mut visited, state)?;
+        add_next(&mut reached, &mut over, next)?;
     }
     Ok(Sorted {
         reached,

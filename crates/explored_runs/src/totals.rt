@@ -1,5 +1,6 @@
 //! How far a search came in all.
-ghost use Rattle.std.specs.Prelude.{◌≡◌, length, IfOk};
+ghost use Rattle.std.specs.Prelude.{◌≡◌, length, true, None, IfOk, OnErr, OnOk, is_some};
+ghost use Rattle.explored_runs.specs.Explored.{unexplored};
 
 use crate::findings::Findings;
 use faults::{ExplorationFault, Fault};
@@ -7,7 +8,7 @@ use state_search::Searched;
 use std::io;
 use std::io::Write;
 
-/// How many states a search found, how many calls it tried that do something, and how many states it left after how many calls.
+/// How many states a search found, by how many calls it went on, and how many states it left after how many calls.
 #[derive(Clone, Copy)]
 pub struct Totals {
     pub states: u64,
@@ -23,7 +24,7 @@ impl Totals {
     {
         let left = searched.left.len() as u64;
         Totals {
-            states: (searched.gone_on.len() as u64).saturating_add(left),
+            states: searched.gone_on.saturating_add(left),
             calls: searched.moves,
             left,
             depth: searched.depth,
@@ -37,16 +38,28 @@ impl Totals {
         writeln!(out, "{states} states, {calls} calls, {outcomes} outcomes")
     }
 
-    /// Refuses a search that did not explore all.
-    pub fn test_all(self, findings: &Findings<'_>) -> Result<(), Fault>
-        ensures { IfOk result (λ _. self.left ≡ 0) }
+    /// Why not all was explored, if it was not: states are left, or else a process runs on.
+    fn why_not_all(self, findings: &Findings<'_>) -> Option<ExplorationFault>
+        ensures { result ≡ unexplored self.left self.depth findings.now.runs_on }
     {
         let (left, calls) = (self.left, self.depth);
         if left > 0 {
-            return Err(Fault::from(ExplorationFault::Cut { left, calls }));
+            return Some(ExplorationFault::Cut { left, calls });
         }
         match findings.runs_on() {
-            Some(outcome) => Err(Fault::from(ExplorationFault::RunsOn { outcome })),
+            Some(outcome) => Some(ExplorationFault::RunsOn { outcome }),
+            None => None,
+        }
+    }
+
+    /// Refuses a search that did not explore all.
+    pub fn test_all(self, findings: &Findings<'_>) -> Result<(), Fault>
+        ensures left { IfOk result (λ _. self.left ≡ 0) }
+        ensures ends { OnOk result (findings.now.runs_on ≡ None) }
+        ensures refused { OnErr result (is_some (unexplored self.left self.depth findings.now.runs_on) ≡ true) }
+    {
+        match self.why_not_all(findings) {
+            Some(why) => Err(Fault::from(why)),
             None => Ok(()),
         }
     }

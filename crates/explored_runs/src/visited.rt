@@ -1,7 +1,19 @@
 //! A state of a search of all orders, as it is visited.
 use crate::replay::Replay;
+use crate::windows::copy_of;
+use crash_lists::Window;
 use files::FileList;
 use std::alloc::{AllocError, Global};
+
+/// What is visited of a search.
+#[derive(Clone, Copy, PartialEq, Eq)]
+pub enum Visits {
+    Nothing,
+    /// Each state.
+    States,
+    /// Each state, with the window that ends there, if one does. So the search keeps windows, and states in which they differ are two.
+    Windows,
+}
 
 /// A state that a search of all orders found.
 #[derive(Drop)]
@@ -10,18 +22,29 @@ pub struct VisitedState {
     pub calls: Vec<u32>,
     /// What the disk holds once all that was done is committed.
     pub files: FileList,
-    /// What terminal 0 shows then.
+    /// What terminal 0 shows then: all that was printed there.
     pub shown: Vec<u8>,
+    /// Where windows are visited, the files since the last sync, if some process stands at a sync, or none can go on.
+    pub window: Option<Window>,
 }
 
 impl VisitedState {
-    /// The state of a run of these calls, which were replayed.
+    /// The state of a run of these calls, which were replayed. It has its window, whether that ends or not.
     pub fn of(alloc: Global, calls: &[u32], replay: &Replay) -> Result<VisitedState, AllocError> {
         let core = &replay.core;
         Ok(VisitedState {
             calls: Vec::from_slice(alloc, calls)?,
             files: core.tables().files.list().try_clone()?,
             shown: Vec::from_slice(alloc, core.written(0))?,
+            window: copy_of(alloc, &replay.window)?,
         })
+    }
+
+    /// The same, with its window only where that ends.
+    pub fn with_window_if(mut self, ends: bool) -> VisitedState {
+        if !ends {
+            self.window = None;
+        }
+        self
     }
 }

@@ -1,4 +1,7 @@
 //! Visits each state of a search of all orders.
+ghost use Rattle.std.specs.Prelude.{IfOk, unwrap_or};
+ghost use Rattle.explored_runs.specs.Explored.{ExploredTo, SearchedTo};
+
 use crate::ends::end_of;
 use crate::limits::Limits;
 use crate::outcome::Outcome;
@@ -8,7 +11,7 @@ use crate::run_search::{Heard, Listener, search_runs};
 use crate::runs::Runs;
 use crate::saved::lines_of;
 use crate::totals::Totals;
-use crate::visited::VisitedState;
+use crate::visited::{VisitedState, Visits};
 use faults::Fault;
 use kernel::Core;
 use scripts::Setup;
@@ -63,24 +66,27 @@ impl<T> Drop for Visiting<'_, T> {
     }
 }
 
-/// Whether `exec` ends with status 0 where programs end so: the first one has that status, and nothing waits for ever.
-fn ends_well(text: &str) -> bool {
-    let Some((ends, _rest)) = text.split_once(" shown ") else {
+/// Whether `exec` ends with status 0 where programs end so: the first one has that status, nothing waits for ever, and nothing runs on.
+fn ends_well(outcome: &Outcome) -> bool {
+    let Some((ends, _rest)) = outcome.text.as_str().split_once(" shown ") else {
         return false;
     };
-    ends.split(' ').any(|end| end == "1:0") && ends.split_once(":waits-").is_none()
+    !outcome.runs_on
+        && ends.split(' ').any(|end| end == "1:0")
+        && ends.split_once(":waits-").is_none()
 }
 
 impl<T> Visiting<'_, T> {
     /// Notes what a run came to.
     fn note(&mut self, outcome: Outcome) {
+        let is_bad = !ends_well(&outcome);
         let Outcome {
-            text,
+            text: _text,
             calls,
             runs_on,
         } = outcome;
         self.runs_on = self.runs_on || runs_on;
-        if self.ends_badly.is_none() && !ends_well(text.as_str()) {
+        if is_bad && self.ends_badly.is_none() {
             self.ends_badly = Some(calls);
         }
     }
@@ -89,7 +95,7 @@ impl<T> Visiting<'_, T> {
 impl<T: StateTaker> Listener for Visiting<'_, T> {
     type Fault = T::Fault;
 
-    fn hear<R: Threads + Sync>(&mut self, rt: &R, heard: Heard<'_>) -> Result<(), T::Fault> {
+    fn hear<R: Threads + Sync>(&mut self, rt: &R, heard: Heard<'_, '_>) -> Result<(), T::Fault> {
         let Heard {
             over,
             visited,
@@ -114,7 +120,9 @@ impl<T: StateTaker> Visiting<'_, T> {
         rt: &R,
         runs: &Runs<'_>,
         limits: Limits,
-    ) -> Result<ExploredStates, T::Fault> {
+    ) -> Result<ExploredStates, T::Fault>
+        ensures { IfOk result (λ explored. SearchedTo runs.now explored.totals limits.states (unwrap_or limits.calls 10000)) }
+    {
         let searched = search_runs(rt, runs, limits.threads(rt), &mut self, limits.bounds())?;
         let Visiting {
             taker: _,
@@ -130,20 +138,24 @@ impl<T: StateTaker> Visiting<'_, T> {
 }
 
 /// Has each state taken that a search of all orders of the calls of programs finds, once, those of fewest calls first. Where the limits
-/// cut the search, the states that it left are not taken, and the result says how many they are. The whole is searched, whatever part the
-/// limits name. The programs are read first. What is taken is the same, however many threads search.
+/// cut the search, the states that it left are not taken, and the result says how many they are. Where windows are visited, states are two
+/// also where the files were others at a moment since the last sync. The whole is searched, whatever part the limits name. The programs are
+/// read first. What is taken is the same, however many threads search.
 pub fn explore_states<R: Files + AllocGlobal + Threads + Sync, T: StateTaker>(
     rt: &R,
     setup: &mut Setup,
     limits: Limits,
+    visits: Visits,
     taker: &mut T,
-) -> Result<ExploredStates, T::Fault> {
+) -> Result<ExploredStates, T::Fault>
+    ensures { IfOk result (λ explored. ExploredTo limits.instructions visits explored.totals limits.states (unwrap_or limits.calls 10000)) }
+{
     let programs = Programs::of_setup(rt, setup)?;
     let runs = Runs {
         alloc: rt.alloc(),
         programs: &programs,
         instructions: limits.instructions,
-        visits: true,
+        visits,
     };
     let visiting = Visiting {
         taker,
@@ -165,7 +177,7 @@ fn run_of_calls<R: Files + AllocGlobal>(
         alloc: rt.alloc(),
         programs: &programs,
         instructions,
-        visits: false,
+        visits: Visits::Nothing,
     };
     runs.replay(calls)
 }

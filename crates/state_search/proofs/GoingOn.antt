@@ -7,7 +7,7 @@ use Rattle.std.proofs.lemmas.List.Elements.{Contains-append_left, Contains-appen
 use Rattle.state_search.specs.Adding.{AreAdded, one_if}
 use Rattle.state_search.specs.Going.{AreLeft, IsGoing, IsParted}
 use Rattle.state_search.specs.Keys.{has}
-use Rattle.state_search.specs.Searches.{Answer, Came, ComesOf, HasKey, IsFirst, WentOn, times}
+use Rattle.state_search.specs.Searches.{Answer, Came, ComesOf, HasKey, HasPart, IsFirst, WentOn, times}
 use Rattle.state_search.specs.declared.key.Key.{Key}
 use Rattle.state_search.specs.declared.moves.Found.{Found}
 use Rattle.state_search.specs.declared.moves.Reached.{Reached}
@@ -292,19 +292,23 @@ module _ {S Z : Type 0} (begins : Reached S → Type 0) (expands : List (Found S
   }
 
 module _ {S Z : Type 0} (begins : Reached S → Type 0) (expands : List (Found S) → List (Reached S) → Type 0) (known known_now : HashSet Key Z)
-    (gone left others gone_now own others_now : List (Found S)) (depth : ℕ) where
+    (many : ℕ) (gone left others : List (Found S)) (many_now : ℕ) (own others_now : List (Found S)) (depth : ℕ) where
   -- so it goes on where states were left
-  pub goes-on-left : IsGoing begins expands known gone left others depth → AreLeft known known_now gone left others gone_now own others_now
-      → IsGoing begins expands known_now gone_now own others_now depth
+  pub goes-on-left : IsGoing begins expands known gone left others depth → AreLeft known known_now many left others many_now own others_now
+      → IsGoing begins expands known_now gone own others_now depth
   goes-on-left going are =
       let all = leaves-others begins expands known gone left others own are.more depth going are.parted in
-      rw (are.known, are.gone, are.others_are) all
+      rw (are.known, are.others_are) all
 
 -- a part goes on from no more states than there may be
-pub within-left : {S Z : Type 0} (old new : HashSet Key Z) (gone left others gone_now own others_now gone_then : List (Found S)) (most : ℕ)
-    → AreLeft old new gone left others gone_now own others_now → gone_then ≡ gone_now ++ own → length gone + length left ≤ most → length gone_then ≤ most
-within-left old new gone left others gone_now own others_now gone_then most are joined few =
-    let all = ap length joined ∙ length-append gone_now own in
-    let same = ap length are.gone in
+pub within-left : {S Z : Type 0} (old new : HashSet Key Z) (many : ℕ) (left others : List (Found S)) (many_now : ℕ) (own others_now : List (Found S)) (most : ℕ)
+    → AreLeft old new many left others many_now own others_now → many + length left ≤ most → many_now + length own ≤ most
+within-left old new many left others many_now own others_now most are few =
+    let same = are.gone in
     let size = are.parted.size in
-    omega (arith, all, same, size, few)
+    omega (arith, same, size, few)
+
+-- a search that left nothing to others says how many states it went on from
+pub has-part : {S Z : Type 0} (begins : Reached S → Type 0) (expands : List (Found S) → List (Reached S) → Type 0) (known : HashSet Key Z) (many : ℕ)
+    (gone left others : List (Found S)) (depth : ℕ) → length gone ≡ many → IsGoing begins expands known gone left others depth → HasPart begins expands many left others depth
+has-part begins expands known many gone left others depth are going = record { gone_on = gone; are_many = are; part = going.searched }

@@ -3,3 +3,4 @@ mod Counting
 mod Parting
 mod AddingStates
 mod GoingOn
+mod Sharing

@@ -4,7 +4,8 @@ use Rattle.std.specs.Prelude.{if◌then◌else◌}
 use Rattle.std.specs.List.{Contains}
 use Rattle.std.proofs.lemmas.List.{length-append}
 use Rattle.std.proofs.lemmas.List.Elements.{Contains-append_left, Contains-push, Contains-push_cases}
-use Rattle.state_search.specs.Going.{IsParted, next_turn, own_from}
+use Rattle.state_search.specs.Going.{IsParted}
+use Rattle.state_search.specs.Sharing.{next_turn, others_from, own_from}
 use Rattle.state_search.specs.declared.moves.Found.{Found}
 use Rattle.state_search.proofs.Counting.{times-append}
 
@@ -87,3 +88,19 @@ module _ {S : Type 0} (number of : ℕ) where
       by : (more before : List (Found S)) → more ≡ before → (b : Bool) → (if b then g ∷ more else more) ≡ (if b then g ∷ before else before)
       by more before rest true = ap (λ (hs : List (Found S)). g ∷ hs) rest
       by more before rest false = rest
+
+  pub others_more : (turn : ℕ) (fs : List (Found S)) (f : Found S) → (turn_at of turn fs == number) ≡ false → others_from number of turn (fs ++ f ∷ []) ≡ others_from number of turn fs ++ f ∷ []
+  others_more turn [] f is = ap (λ (b : Bool). if b then [] else f ∷ []) is
+  others_more turn (g ∷ fs) f is = by _ _ (others_more (next_turn of turn) fs f is) (turn == number)
+    where
+      by : (more before : List (Found S)) → more ≡ before ++ f ∷ [] → (b : Bool) → (if b then more else g ∷ more) ≡ (if b then before else g ∷ before) ++ f ∷ []
+      by more before rest true = rest
+      by more before rest false = ap (λ (hs : List (Found S)). g ∷ hs) rest
+
+  pub others_still : (turn : ℕ) (fs : List (Found S)) (f : Found S) → (turn_at of turn fs == number) ≡ true → others_from number of turn (fs ++ f ∷ []) ≡ others_from number of turn fs
+  others_still turn [] f is = ap (λ (b : Bool). if b then [] else f ∷ []) is
+  others_still turn (g ∷ fs) f is = by _ _ (others_still (next_turn of turn) fs f is) (turn == number)
+    where
+      by : (more before : List (Found S)) → more ≡ before → (b : Bool) → (if b then more else g ∷ more) ≡ (if b then before else g ∷ before)
+      by more before rest true = rest
+      by more before rest false = ap (λ (hs : List (Found S)). g ∷ hs) rest

@@ -5,6 +5,7 @@ use Rattle.std.specs.HashSet.{HashSet}
 use Rattle.state_search.specs.Adding.{one_if}
 use Rattle.state_search.specs.Keys.{has}
 use Rattle.state_search.specs.Searches.{IsPart, times}
+use Rattle.state_search.specs.Sharing.{others_from, own_from}
 use Rattle.state_search.specs.declared.key.Key.{Key}
 use Rattle.state_search.specs.declared.moves.Found.{Found}
 use Rattle.state_search.specs.declared.moves.Reached.{Reached}
@@ -23,21 +24,12 @@ pub record IsParted {S : Type 0} (all mine theirs : List (Found S)) : Type 0 whe
   pub size : length all ≡ length mine + length theirs
 
 -- the states of the last level are left to others, but for some; nothing else of the search is changed
-pub record AreLeft {S Z : Type 0} (old new : HashSet Key Z) (gone_on left others gone_on_now own others_now : List (Found S)) : Type 0 where
+pub record AreLeft {S Z : Type 0} (old new : HashSet Key Z) (gone_on : ℕ) (left others : List (Found S)) (gone_on_now : ℕ) (own others_now : List (Found S)) : Type 0 where
   pub known : new ≡ old
   pub gone : gone_on_now ≡ gone_on
   pub more : List (Found S)
   pub others_are : others_now ≡ others ++ more
   pub parted : IsParted left own more
-
--- whose turn it is after this one's, among so many
-abbrev pub next_turn : ℕ → ℕ → ℕ
-next_turn of turn = if nat_le of turn then 1 else turn + 1
-
--- of states that are shared out one by one among so many, from this one's turn on, those of one part
-abbrev pub own_from : {S : Type 0} → ℕ → ℕ → ℕ → List (Found S) → List (Found S)
-own_from number of turn [] = []
-own_from number of turn (f ∷ fs) = if turn == number then f ∷ own_from number of (next_turn of turn) fs else own_from number of (next_turn of turn) fs
 
 -- a level is shared out among so many parts where it has 64 states for each
 abbrev pub is_enough : ℕ → ℕ → Bool
@@ -50,3 +42,7 @@ is_shared_out of others level = (length others == 0) && is_enough of (length lev
 -- what a part keeps of a level: its own where the level is shared out, else all
 abbrev pub kept_by : {S : Type 0} → ℕ → ℕ → List (Found S) → List (Found S) → List (Found S)
 kept_by number of others level = if is_shared_out of others level then own_from number of 1 level else level
+
+-- what it left to others by then: beside those before, all of that level that are not its own
+abbrev pub left_by : {S : Type 0} → ℕ → ℕ → List (Found S) → List (Found S) → List (Found S)
+left_by number of others level = if is_shared_out of others level then others ++ others_from number of 1 level else others

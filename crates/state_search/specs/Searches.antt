@@ -77,20 +77,29 @@ pub record IsPart {S : Type 0} (begins : Reached S → Type 0) (expands : List (
 abbrev pub IsSearched : {S : Type 0} → (Reached S → Type 0) → (List (Found S) → List (Reached S) → Type 0) → List (Found S) → List (Found S) → ℕ → Type 0
 IsSearched begins expands gone_on left depth = IsPart begins expands gone_on left [] depth
 
+-- A part of a search that says of the states from which it went on how many they are, and keeps none of them.
+pub record HasPart {S : Type 0} (begins : Reached S → Type 0) (expands : List (Found S) → List (Reached S) → Type 0) (many : ℕ) (left others : List (Found S)) (depth : ℕ) : Type 0 where
+  pub gone_on : List (Found S)
+  pub are_many : length gone_on ≡ many
+  pub part : IsPart begins expands gone_on left others depth
+
+abbrev pub HasSearched : {S : Type 0} → (Reached S → Type 0) → (List (Found S) → List (Reached S) → Type 0) → ℕ → List (Found S) → ℕ → Type 0
+HasSearched begins expands many left depth = HasPart begins expands many left [] depth
+
 -- how many states were found
-abbrev pub count_of : {S : Type 0} → List (Found S) → List (Found S) → ℕ
-count_of gone_on left = length gone_on + length left
+abbrev pub count_of : {S : Type 0} → ℕ → List (Found S) → ℕ
+count_of gone_on left = gone_on + length left
 
 -- Why a search ends: it left none, or found more than it may, or came as deep as it may.
-abbrev pub IsCut : {S : Type 0} → List (Found S) → List (Found S) → ℕ → Bounds → Type 0
+abbrev pub IsCut : {S : Type 0} → ℕ → List (Found S) → ℕ → Bounds → Type 0
 IsCut gone_on left depth b = (left ≡ []) ⊎ ((b.states < count_of gone_on left) ⊎ (b.moves ≤ depth))
 
 -- It goes on where it found no more than it may, and is not as deep.
-pub record MayGoOn {S : Type 0} (gone_on left : List (Found S)) (depth : ℕ) (b : Bounds) : Type 0 where
+pub record MayGoOn {S : Type 0} (gone_on : ℕ) (left : List (Found S)) (depth : ℕ) (b : Bounds) : Type 0 where
   pub states : count_of gone_on left ≤ b.states
   pub moves : depth < b.moves
 
 -- It went no farther than it may.
-pub record IsWithin {S : Type 0} (gone_on : List (Found S)) (depth : ℕ) (b : Bounds) : Type 0 where
-  pub states : length gone_on ≤ b.states
+pub record IsWithin (gone_on depth : ℕ) (b : Bounds) : Type 0 where
+  pub states : gone_on ≤ b.states
   pub moves : depth ≤ b.moves

@@ -1,6 +1,7 @@
 //! Parts of a search: how the states of a level are shared out.
 ghost use Rattle.std.specs.Prelude.{◌≡◌, IfOk};
-ghost use Rattle.state_search.specs.Going.{IsParted, is_enough as are_enough, next_turn as turn_after, own_from};
+ghost use Rattle.state_search.specs.Going.{IsParted, is_enough as are_enough};
+ghost use Rattle.state_search.specs.Sharing.{next_turn as turn_after, others_from, own_from};
 
 use crate::moves::Found;
 use std::alloc::{AllocError, Global};
@@ -48,6 +49,7 @@ impl Part {
     ) -> Result<Parted<S>, AllocError>
         ensures parted { IfOk result (λ parted. IsParted states.items parted.own.items parted.others.items) }
         ensures own { IfOk result (λ parted. parted.own.items ≡ own_from self.number self.of 1 states.items) }
+        ensures others { IfOk result (λ parted. parted.others.items ≡ others_from self.number self.of 1 states.items) }
     {
         let mut own = Vec::new(alloc);
         let mut others = Vec::new(alloc);

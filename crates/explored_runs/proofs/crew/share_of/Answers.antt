@@ -11,8 +11,8 @@ pub loop-found-preserved : goal.loop-found-preserved
 loop-found-preserved c = λ files stand.
     let r = c.args.runs.now in
     let f = c.found-item.result in
-    let next = rw c.as_slice.ensures.value at c.in_ok-after.ensures files stand in
-    let more = one_more r files _ c.loop-found.afters.items f c.in_ok-after.field-0 (c.loop-found.invariant files stand) next in
+    let next = rw c.as_slice.ensures.value at c.in_ok-after.ensures.next files stand in
+    let more = one_more r files _ c.loop-found.afters.items f c.in_ok-after.field-0 (c.loop-found.invariant files stand) (next, c.in_ok-after.ensures.keys) in
     let taken = next_taken c.args.share.now c.loop-found.found-index f c.loop-found-test.true c.found-item.is in
     rw (c.in_ok-push.ensures.items, taken) more
 

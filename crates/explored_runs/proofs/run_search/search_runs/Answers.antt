@@ -14,8 +14,8 @@ returns-in-Ok-clause-finds g c =
       searched = found.searched;
       finds = λ files stand tell. found.finds r.instructions (boot_in r files) (seen_in_runs r files)
           (record {
-            begins = ap (λ (ps : List ℕ). seen_after_calls r.instructions (boot_in r files) ps) found.searched.is_first;
-            each = λ a is. are_calls r files a.level a.next (found.searched.are_answers a is files stand);
+            begins = ap (λ (ps : List ℕ). seen_after_calls r.instructions (boot_in r files) ps) found.searched.part.is_first.calls;
+            each = λ a is. are_calls r files a.level a.next (found.searched.part.are_answers a is files stand);
           })
           tell;
     }

@@ -12,10 +12,11 @@ returns-in-Ok-clause-finds g c =
     let found = c.in-Ok.ensures.finds in
     record {
       searched = found.searched;
+      shared = found.shared;
       finds = λ files stand all tell among. found.finds r.instructions (boot_in r files) (seen_in_runs r files) all
           (record {
-            begins = ap (λ (ps : List ℕ). seen_after_calls r.instructions (boot_in r files) ps) found.searched.is_first;
-            each = λ a is. are_calls r files a.level a.next (found.searched.are_answers a is files stand);
+            begins = ap (λ (ps : List ℕ). seen_after_calls r.instructions (boot_in r files) ps) found.searched.part.is_first.calls;
+            each = λ a is. are_calls r files a.level a.next (found.searched.part.are_answers a is files stand);
           })
           tell among;
     }

@@ -1,7 +1,12 @@
--- The runs so far are those that are in what was found so far.
+-- So far it is what is in what was found so far.
 use Rattle.std.proofs.Common.{◌≡◌}
-use Rattle.explored_runs.specs.Answering.{reached_in}
+use Rattle.explored_runs.specs.Answering.{calls_in, over_in, reached_in, visited_in}
 use Rattle.explored_runs.proofs.sorting.sort_out.Given as goal
 
 abbrev pub invariant-loop-state : goal.invariant-loop-state
-invariant-loop-state l = l.reached.items ≡ reached_in l.yielded
+invariant-loop-state l = record {
+  reached : l.reached.items ≡ reached_in l.yielded;
+  over : l.over.items ≡ over_in l.yielded;
+  visited : l.visited.items ≡ visited_in l.yielded;
+  calls : l.calls.items ≡ calls_in l.yielded;
+}

@@ -10,4 +10,4 @@ returns-clause-going g c =
     let empty : (k : Key) → has c.new-known.result.set k ≡ false = λ k. rw c.new-known.ensures refl in
     let adds = rw c.in_ok-reached.ensures at c.in_ok-left.ensures in
     let all = begins-with (g.M.Moves.begins (g.M.Moves.space c.args.moves.now)) (g.M.Moves.expands (g.M.Moves.space c.args.moves.now)) c.new-known.result.set c.add_all.new.known.set c.in_ok-first.field-0 c.in_ok-left.left.items empty adds c.in_ok-first.ensures.begins in
-    rw (c.new.ensures.items, c.new-2.ensures.items) all
+    rw c.new.ensures.items all

@@ -1,29 +1,44 @@
 -- The part goes on by a level, or leaves states to others before.
-use Rattle.std.proofs.Common.{arith, ◌∙◌}
+use Rattle.std.proofs.Common.{arith, ◌∙◌, ◌++◌, ◌+◌, length, ap, sym}
+use Rattle.std.proofs.lemmas.List.{length-append}
+use Rattle.state_search.specs.Going.{IsGoing}
 use Rattle.state_search.proofs.GoingOn.{goes-on-left, within-left}
+use Rattle.state_search.proofs.Sharing.{shares}
 use Rattle.state_search.proofs.searching.search_part.Goals as goal
-
-pub go_on-requires-clause-going : goal.go_on-requires-clause-going
-go_on-requires-clause-going g c κs within =
-    let was = c.loop-alloc.going in
-    let now = c.in_ok-going-2.going in
-    let all = goes-on-left (g.M.Moves.begins (g.M.Moves.space c.args.moves.now)) (g.M.Moves.expands (g.M.Moves.space c.args.moves.now)) was.known.set now.known.set
-    was.searched.gone_on.items was.searched.left.items was.others.items now.searched.gone_on.items now.searched.left.items now.others.items was.searched.depth
-    c.loop-alloc.invariant.going c.in_ok-going-2.ensures.left in
-    rw (c.loop-alloc.invariant.space, c.in_ok-going-2.ensures.depth) all
 
 pub loop-alloc-preserved : goal.loop-alloc-preserved
 loop-alloc-preserved g c =
+    let B = g.M.Moves.begins (g.M.Moves.space c.args.moves.now) in
+    let E = g.M.Moves.expands (g.M.Moves.space c.args.moves.now) in
+    let inv = c.loop-alloc.invariant in
     let was = c.loop-alloc.going in
     let left = c.in_ok-going-2.going in
     let now = c.in_ok-going-3.going in
     let more = c.loop-alloc-test.ensures.more in
+    let are = c.in_ok-going-2.ensures.left in
+    let goes = goes-on-left B E was.known.set left.known.set was.searched.gone_on inv.gone was.searched.left.items was.others.items left.searched.gone_on left.searched.left.items
+    left.others.items was.searched.depth inv.going are in
+    let at-depth : IsGoing B E left.known.set inv.gone left.searched.left.items left.others.items left.searched.depth = rw c.in_ok-going-2.ensures.depth goes in
+    let goes-on = rw inv.space at c.in_ok-going-3.ensures.going inv.gone in
+    let kept = shares B E was.known.set c.args.part.number c.args.part.of was.searched.gone_on inv.gone was.searched.left.items was.others.items was.searched.depth inv.going inv.are_many inv.shared in
     record {
-      space = c.go_on.ensures.space ∙ c.loop-alloc.invariant.space;
+      space = c.go_on.ensures.space ∙ inv.space;
       within = record {
-        states = within-left was.known.set left.known.set was.searched.gone_on.items was.searched.left.items was.others.items left.searched.gone_on.items
-            left.searched.left.items left.others.items now.searched.gone_on.items c.args.bounds.states c.in_ok-going-2.ensures.left c.in_ok-going-3.ensures.gone more.states;
+        states = let most = within-left was.known.set left.known.set was.searched.gone_on was.searched.left.items was.others.items left.searched.gone_on
+            left.searched.left.items left.others.items c.args.bounds.states are more.states in let gone = c.in_ok-going-3.ensures.gone in omega (arith, most, gone);
         moves = let deeper = c.in_ok-going-3.ensures.deeper in let same = c.in_ok-going-2.ensures.depth in let below = more.moves in omega (arith, deeper, same, below);
       };
-      going = let going = rw c.loop-alloc.invariant.space at c.in_ok-going-3.ensures.going in going;
+      gone = inv.gone ++ left.searched.left.items;
+      are_many = length-append inv.gone left.searched.left.items
+          ∙ ap (λ n. n + length left.searched.left.items) (inv.are_many ∙ sym are.gone) ∙ sym c.in_ok-going-3.ensures.gone;
+      going = goes-on at-depth;
+      shared = rw (c.in_ok-going-3.ensures.alone, c.in_ok-going-2.ensures.others, c.in_ok-going-2.ensures.own) kept;
+    }
+
+pub returns-clause-part : goal.returns-clause-part
+returns-clause-part g c =
+    let inv = c.loop-alloc.invariant in
+    record {
+      searched = record { gone_on = inv.gone; are_many = inv.are_many; part = inv.going.searched };
+      shared = inv.shared;
     }

@@ -1,15 +1,21 @@
 -- The part goes on.
-use Rattle.std.proofs.Common.{◌≡◌, ◌-◌}
+use Rattle.std.proofs.Common.{◌≡◌, ◌⊎◌, ◌-◌, List, [], length}
 use Rattle.state_search.specs.Going.{IsGoing}
 use Rattle.state_search.specs.Searches.{IsWithin}
+use Rattle.state_search.specs.Sharing.{IsShared}
+use Rattle.state_search.specs.declared.moves.Found.{Found}
 use Rattle.state_search.proofs.searching.search_part.Given as goal
 
 abbrev pub invariant-loop-alloc : goal.invariant-loop-alloc
 invariant-loop-alloc g l = record {
   space : g.M.Moves.space l.moves ≡ g.M.Moves.space l.fn.moves;
-  within : IsWithin l.going.searched.gone_on.items l.going.searched.depth l.bounds;
+  within : IsWithin l.going.searched.gone_on l.going.searched.depth l.bounds;
+  gone : List (Found g.row.M-State.Denot);
+  are_many : length gone ≡ l.going.searched.gone_on;
   going : IsGoing (g.M.Moves.begins (g.M.Moves.space l.fn.moves)) (g.M.Moves.expands (g.M.Moves.space l.fn.moves)) l.going.known.set
-      l.going.searched.gone_on.items l.going.searched.left.items l.going.others.items l.going.searched.depth;
+      gone l.going.searched.left.items l.going.others.items l.going.searched.depth;
+  shared : (l.going.others.items ≡ []) ⊎ IsShared (g.M.Moves.begins (g.M.Moves.space l.fn.moves)) (g.M.Moves.expands (g.M.Moves.space l.fn.moves))
+      l.part.number l.part.of gone l.going.others.items;
 }
 
 abbrev pub decreases-loop-alloc : goal.decreases-loop-alloc

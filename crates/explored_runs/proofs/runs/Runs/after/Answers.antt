@@ -7,11 +7,14 @@ use Rattle.explored_runs.specs.Replays.{seen_after_calls}
 use Rattle.explored_runs.proofs.BootDisks.{one_files}
 use Rattle.explored_runs.proofs.runs.Runs.after.Goals as goal
 
-pub returns : goal.returns
-returns c = λ files stand.
+pub returns-clause-next : goal.returns-clause-next
+returns-clause-next c = λ files stand.
     let r = c.args.self.now in
     let calls = c.args.calls.now in
     let run = c.in_ok-replay.ensures in
     let same = one_files r.programs.now.disk c.in_ok-replay.replay.core.boot.files files run.files stand in
     let seen = run.seen ∙ ap (λ (fs : List NamedFile). seen_after_calls r.instructions (boot_in r fs) calls) same in
-    subst (λ (s : Seen). IsNext r.instructions s calls c.in_ok-next.field-0) seen c.in_ok-next.ensures
+    subst (λ (s : Seen). IsNext r.instructions s calls c.in_ok-next.next) seen c.in_ok-next.ensures.next
+
+pub returns-clause-keys : goal.returns-clause-keys
+returns-clause-keys c = c.in_ok-next.ensures.keys c.in_ok-replay.ensures

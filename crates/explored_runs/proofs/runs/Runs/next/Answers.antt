@@ -6,9 +6,10 @@ use Rattle.std.proofs.lemmas.Bool.{false≢true}
 use Rattle.kernel_model.specs.State.{SyncState}
 use Rattle.order_laws.specs.Moves.{Seen}
 use Rattle.state_search.specs.declared.moves.Reached.{Reached}
-use Rattle.explored_runs.specs.Answering.{ways, with_each, working}
+use Rattle.explored_runs.specs.Answering.{HasTriedKey, ways, with_each, working}
 use Rattle.explored_runs.specs.Replays.{IsTried, is_idle, seen_of}
 use Rattle.explored_runs.specs.declared.runs.Tried.{Tried}
+use Rattle.explored_runs.proofs.Keying.{copy_is, keys_more}
 use Rattle.explored_runs.proofs.Nexts.{asked_idle, asked_made, empty_of, none_asked, not_empty, tried_in}
 use Rattle.explored_runs.proofs.Replaying.{seen_sync}
 use Rattle.explored_runs.proofs.runs.Runs.next.Goals as goal
@@ -34,16 +35,23 @@ loop-place-preserved c =
             let made = subst (λ (t : Tried). IsTried n s ps (k + 1) t) w.in-Made.is tried in
             rw (w.reached-is, w.in_ok-push-in-Made.ensures.items) (asked_made n s ps rs k asked (k + 1) next w.in-Made.run' made.0 made.1)
       ];
+      keys = elim c.match-branch-4.branch [
+        | in-Idle w ↦ λ run. rw w.reached-is (c.loop-place.invariant.keys run)
+        | in-Made+in_ok-push-in-Made w ↦ λ run.
+            let copied = copy_is c.args.self.now ps c.args.replay c.in_ok-copy-2.copy run stands in
+            let key = subst (λ (t : Tried). HasTriedKey c.args.self.now t) w.in-Made.is (c.in_ok-try_call.ensures.key copied) in
+            rw (w.reached-is, w.in_ok-push-in-Made.ensures.items) (keys_more c.args.self.now rs w.in-Made.run' (c.loop-place.invariant.keys run) key)
+      ];
       copy = elim c.match-branch-4.branch [
         | in-Idle w ↦ λ _.
             let idle = ap is_idle w.in-Idle.is in
-            record { seen = c.in_ok-try_call.ensures.idle idle ∙ stands.seen; limit = c.in_ok-try_call.ensures.limit idle ∙ stands.limit }
+            record { seen = c.in_ok-try_call.ensures.idle idle ∙ stands.seen; boot = c.in_ok-try_call.ensures.boot idle ∙ stands.boot; limit = c.in_ok-try_call.ensures.limit idle ∙ stands.limit }
         | in-Made+in_ok-push-in-Made w ↦ λ unused. absurd (false≢true (sym unused ∙ w.is_used-is))
       ];
     }
 
-pub returns-then-not-is_empty : goal.returns-then-not-is_empty
-returns-then-not-is_empty c =
+pub returns-then-not-is_empty-clause-next : goal.returns-then-not-is_empty-clause-next
+returns-then-not-is_empty-clause-next c =
     let n = c.args.self.now.instructions in
     let s = seen_of c.args.replay.core in
     let ps = c.args.calls.now in
@@ -54,8 +62,8 @@ returns-then-not-is_empty c =
     let size : vec_len c.loop-place.reached ≡ length rs = search rules in
     (inr all, not_empty rs (vec_len c.loop-place.reached) size (sym c.is_empty.ensures ∙ c.if-not-is_empty.true))
 
-pub returns : goal.returns
-returns c =
+pub returns-clause-next : goal.returns-clause-next
+returns-clause-next c =
     let n = c.args.self.now.instructions in
     let s = seen_of c.args.replay.core in
     let ps = c.args.calls.now in

@@ -1,0 +1,59 @@
+-- Whether all was explored.
+use Rattle.std.specs.Prelude.{◌≡◌, ℕ, nat_lt, if◌then◌else◌, List, [], length, Option, Some, None, option_map}
+use Rattle.std.specs.Global.{Vec}
+use Rattle.faults.specs.declared.exploration.ExplorationFault.{ExplorationFault}
+use Rattle.faults.specs.declared.exploration.ExplorationFault.TheVariants.{Cut, RunsOn}
+use Rattle.state_search.specs.Searches.{IsCut}
+use Rattle.state_search.specs.declared.bounds.Bounds.{Bounds}
+use Rattle.state_search.specs.declared.moves.Found.{Found}
+use Rattle.state_search.specs.declared.parts.Part.{Part}
+use Rattle.explored_runs.specs.RunSearches.{FindsPartOfRuns, FindsRuns}
+use Rattle.explored_runs.specs.declared.runs.Runs.{Runs}
+use Rattle.explored_runs.specs.declared.totals.Totals.{Totals}
+use Rattle.explored_runs.specs.declared.visited.Visits.{Visits}
+
+-- why not all was explored, if it was not: so many states were left after so many calls, or else a process runs on in this outcome
+abbrev pub unexplored : ℕ → ℕ → Option ℕ → Option ExplorationFault
+unexplored left calls runs_on = if nat_lt 0 left then Some (Cut left calls) else option_map (λ outcome. RunsOn outcome) runs_on
+
+-- these runs were searched, and none was left
+pub record SearchedAll (r : Runs) : Type 0 where
+  pub many : ℕ
+  pub depth : ℕ
+  pub finds : FindsRuns r many [] depth
+
+-- a part of them was searched, and none was left but to other parts
+pub record SearchedPart (r : Runs) (part : Part) : Type 0 where
+  pub many : ℕ
+  pub others : List (Found (Vec ℕ))
+  pub depth : ℕ
+  pub finds : FindsPartOfRuns r part.number part.of many [] others depth
+
+-- what is asked for: a part, or all
+abbrev pub SearchedBy : Runs → Option Part → Type 0
+SearchedBy r None = SearchedAll r
+SearchedBy r (Some part) = SearchedPart r part
+
+-- runs of programs were searched so, where each process runs at most so many instructions to its next call
+pub record Explored (instructions : ℕ) (part : Option Part) : Type 0 where
+  pub runs : Runs
+  pub limit : runs.instructions ≡ instructions
+  pub searched : SearchedBy runs part
+
+abbrev pub bounds_of : ℕ → ℕ → Bounds
+bounds_of states moves = record { states = states; moves = moves }
+
+-- These runs were searched, and as many were left as these totals say, by so many calls. Some are left only where a bound cut the search.
+pub record SearchedTo (r : Runs) (t : Totals) (states moves : ℕ) : Type 0 where
+  pub many : ℕ
+  pub left : List (Found (Vec ℕ))
+  pub finds : FindsRuns r many left t.depth
+  pub left_are : t.left ≡ length left
+  pub cut : IsCut many left t.depth (bounds_of states moves)
+
+-- the same of runs of programs
+pub record ExploredTo (instructions : ℕ) (visits : Visits) (t : Totals) (states moves : ℕ) : Type 0 where
+  pub runs : Runs
+  pub limit : runs.instructions ≡ instructions
+  pub visited : runs.visits ≡ visits
+  pub searched : SearchedTo runs t states moves
