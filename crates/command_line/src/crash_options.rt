@@ -163,11 +163,6 @@ fn rule_conflict(matches: &ArgMatches<'_>) -> Option<&'static str> {
     if matches.get_str("expect").is_some() {
         return Some("the argument '--expect <FILE>' cannot be used with '--model <NAME>'");
     }
-    if matches.get_flag("all-orders") {
-        return Some(
-            "the argument '--all-orders' cannot be used with '--model <NAME>', another than bench",
-        );
-    }
     None
 }
 

@@ -8,12 +8,12 @@ use crate::window::Window;
 use std::alloc::{AllocError, Global};
 use std::collections::HashSet;
 
-/// A cell of a file that is not as at the common moment.
+/// A cell of a file that is not as at the common moment, and as at which it is.
 #[derive(Clone, Copy)]
 pub enum ApartCell {
-    Length,
+    Length { moment: usize },
     /// The 512 bytes of this number.
-    Bytes(usize),
+    Bytes { cell: usize, moment: usize },
 }
 
 /// What a file may hold, and which of its cells are not as at the common moment.
@@ -49,12 +49,32 @@ impl Content {
     }
 }
 
-/// The values that a cell of a file may have, and the one that it has at the common moment.
+/// The bytes that a cell has at a moment.
+#[derive(Drop)]
+struct CellValue {
+    moment: usize,
+    bytes: Vec<u8>,
+}
+
+/// The values that a cell of a file may have, and the bytes that it has at the common moment.
 #[derive(Drop)]
 struct CellValues {
     cell: usize,
-    values: Vec<Vec<u8>>,
+    values: Vec<CellValue>,
     here: Vec<u8>,
+}
+
+impl CellValues {
+    /// The cell with one of its values, if it is apart then.
+    fn apart(&self, value: &CellValue) -> Option<ApartCell> {
+        if value.bytes.as_slice() == self.here.as_slice() {
+            return None;
+        }
+        Some(ApartCell::Bytes {
+            cell: self.cell,
+            moment: value.moment,
+        })
+    }
 }
 
 /// A file at a common moment, from which cells may be apart.
@@ -67,11 +87,11 @@ pub struct FileAt<'a> {
     pub choices: &'a Choices,
 }
 
-/// A file without bytes, whose length is apart or not.
-fn first_content(alloc: Global, is_apart: bool) -> Result<Content, AllocError> {
+/// A file without bytes, whose length is apart, as at a moment, or is not.
+fn first_content(alloc: Global, length: Option<usize>) -> Result<Content, AllocError> {
     let mut apart = Vec::new(alloc);
-    if is_apart {
-        apart.push(ApartCell::Length)?;
+    if let Some(moment) = length {
+        apart.push(ApartCell::Length { moment })?;
     }
     Ok(Content {
         bytes: Vec::new(alloc),
@@ -91,12 +111,7 @@ fn extend(
     let mut is_cut = false;
     for content in begun {
         for value in &cell.values {
-            let apart = if value.as_slice() == cell.here.as_slice() {
-                None
-            } else {
-                Some(ApartCell::Bytes(cell.cell))
-            };
-            let content = content.with_cell(alloc, value.as_slice(), apart)?;
+            let content = content.with_cell(alloc, value.bytes.as_slice(), cell.apart(value))?;
             if content.count_apart() > most {
                 is_cut = true;
             } else {
@@ -149,7 +164,10 @@ impl FileAt<'_> {
         let mut values = Vec::new(alloc);
         for moment in moments {
             let bytes = self.window.bytes_at(self.number, *moment);
-            values.push(cell_bytes(alloc, bytes, cell)?)?;
+            values.push(CellValue {
+                moment: *moment,
+                bytes: cell_bytes(alloc, bytes, cell)?,
+            })?;
         }
         let now = self.window.bytes_at(self.number, self.moment);
         Ok(CellValues {
@@ -169,7 +187,12 @@ impl FileAt<'_> {
         let now = self.window.bytes_at(self.number, self.moment);
         let length = self.window.bytes_at(self.number, size).len();
         let mut contents = Vec::new(alloc);
-        let first = first_content(alloc, length != now.len())?;
+        let apart = if length == now.len() {
+            None
+        } else {
+            Some(size)
+        };
+        let first = first_content(alloc, apart)?;
         if first.count_apart() > most {
             return Ok((contents, true));
         }

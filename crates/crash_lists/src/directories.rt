@@ -11,15 +11,13 @@ pub struct NameCell {
     pub number: Option<u64>,
 }
 
-/// The names that a crash may leave, and how many changes of names are not as at the common moment.
+/// The names that a crash may leave, and which changes of names are not as at the common moment.
 #[derive(Drop)]
 pub struct Directory {
     pub cells: Vec<NameCell>,
     /// The names of which a change is not there. No later one is then.
     stopped: Vec<Vec<u8>>,
-    pub apart: u32,
-    /// The first name of each change that is apart.
-    pub names_apart: Vec<Vec<u8>>,
+    pub apart: Vec<usize>,
 }
 
 fn is_among(names: &[Vec<u8>], name: &[u8]) -> bool {
@@ -66,7 +64,7 @@ fn push_edits(
 }
 
 /// What a change does to names.
-fn edits_of(
+pub fn edits_of(
     alloc: Global,
     before: &FileTable,
     after: &FileTable,
@@ -90,9 +88,13 @@ impl Directory {
         Ok(Directory {
             cells: cells_of(alloc, files)?,
             stopped: Vec::new(alloc),
-            apart: 0,
-            names_apart: Vec::new(alloc),
+            apart: Vec::new(alloc),
         })
+    }
+
+    /// How many changes are apart.
+    pub fn count_apart(&self) -> u32 {
+        u32::try_from(self.apart.len()).unwrap_or(u32::MAX)
     }
 
     fn try_clone(&self, alloc: Global) -> Result<Directory, AllocError> {
@@ -106,8 +108,7 @@ impl Directory {
         Ok(Directory {
             cells,
             stopped: copies_of(alloc, self.stopped.as_slice())?,
-            apart: self.apart,
-            names_apart: copies_of(alloc, self.names_apart.as_slice())?,
+            apart: Vec::from_slice(alloc, self.apart.as_slice())?,
         })
     }
 
@@ -154,22 +155,12 @@ struct Near {
 }
 
 impl Near {
-    /// Adds a directory, in which the change of these names is apart or not.
-    fn push(
-        &mut self,
-        alloc: Global,
-        mut directory: Directory,
-        edits: &[NameCell],
-        is_apart: bool,
-    ) -> Result<(), AllocError> {
-        if is_apart {
-            directory.apart = directory.apart.saturating_add(1);
-            for edit in edits.iter().take(1) {
-                let name = Vec::from_slice(alloc, edit.name.as_slice())?;
-                directory.names_apart.push(name)?;
-            }
+    /// Adds a directory, in which a change of names is apart, if one is given.
+    fn push(&mut self, mut directory: Directory, apart: Option<usize>) -> Result<(), AllocError> {
+        if let Some(change) = apart {
+            directory.apart.push(change)?;
         }
-        if directory.apart > self.most {
+        if directory.count_apart() > self.most {
             self.is_cut = true;
             return Ok(());
         }
@@ -178,23 +169,38 @@ impl Near {
     }
 }
 
-/// The directories after one more change of names, which is there at the common moment or is not.
-fn after_edits(
-    alloc: Global,
-    near: Near,
-    edits: &[NameCell],
+/// A change of names, and whether it is there at the common moment.
+#[derive(Clone, Copy)]
+struct NameChange<'a> {
+    change: usize,
+    edits: &'a [NameCell],
     is_there: bool,
-) -> Result<Near, AllocError> {
+}
+
+impl NameChange<'_> {
+    /// The change, if it is apart in a directory that has it or not.
+    fn apart(&self, has_it: bool) -> Option<usize> {
+        if has_it == self.is_there {
+            None
+        } else {
+            Some(self.change)
+        }
+    }
+}
+
+/// The directories with one more change of names, and those without it.
+fn after_change(alloc: Global, near: Near, change: NameChange<'_>) -> Result<Near, AllocError> {
     let mut next = Near {
         most: near.most,
         directories: Vec::new(alloc),
         is_cut: near.is_cut,
     };
     for directory in &near.directories {
+        let edits = change.edits;
         if directory.takes(edits) {
-            next.push(alloc, directory.with(alloc, edits)?, edits, !is_there)?;
+            next.push(directory.with(alloc, edits)?, change.apart(true))?;
         }
-        next.push(alloc, directory.without(alloc, edits)?, edits, is_there)?;
+        next.push(directory.without(alloc, edits)?, change.apart(false))?;
     }
     Ok(next)
 }
@@ -212,14 +218,19 @@ fn free_directories(
         is_cut: false,
     };
     if let Some(files) = window.files_at(0) {
-        near.push(alloc, Directory::of(alloc, files)?, &[], false)?;
+        near.push(Directory::of(alloc, files)?, None)?;
     }
     for change in 0..window.changes() {
         let next = change.saturating_add(1);
         if let (Some(before), Some(after)) = (window.files_at(change), window.files_at(next)) {
             let edits = edits_of(alloc, before, after)?;
             if !edits.is_empty() {
-                near = after_edits(alloc, near, edits.as_slice(), next <= moment)?;
+                let names = NameChange {
+                    change,
+                    edits: edits.as_slice(),
+                    is_there: next <= moment,
+                };
+                near = after_change(alloc, near, names)?;
             }
         }
     }

@@ -1,14 +1,19 @@
 //! Which files a crash may leave under other rules of commits than that of bench: an enumeration, by how many cells are apart. Read
-//! `Enumeration` first. `crash_models` defines the rules. Only safety is proved; tests compare the lists with another enumeration.
+//! `Enumeration` first. `crash_models` defines the rules. Of the lists only safety is proved; tests compare them with another enumeration.
+//! `ChangeOnDisk` says how much of a change is there, by `specs/Presences`.
 #![tactic(auto)]
 
+mod cells;
 mod choices;
 mod contents;
 mod directories;
+mod effects;
 mod lists;
 mod model;
+mod presence;
 mod window;
 
 pub use lists::{Enumeration, Listed, Lists};
 pub use model::CrashModel;
+pub use presence::{ChangeOnDisk, Part, PartOnDisk, Presence};
 pub use window::Window;

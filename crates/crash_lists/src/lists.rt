@@ -1,8 +1,11 @@
 //! `Enumeration`: which files a crash may leave.
+use crate::cells::{CellOfFile, DiskCells};
 use crate::choices::Choices;
 use crate::contents::{ApartCell, Content, FileAt};
 use crate::directories::{Directory, directories_near};
+use crate::effects::{Effect, FileEffect, effects_of};
 use crate::model::CrashModel;
+use crate::presence::{ChangeOnDisk, Part, PartOnDisk};
 use crate::window::{CELL, Window};
 use byte_list::Bytes;
 use disk_model::Change;
@@ -14,8 +17,8 @@ use std::alloc::{AllocError, Global};
 pub struct Listed {
     pub files: FileList,
     pub apart: u32,
-    /// Which moment that is, and which cells they are, in words.
-    pub told: String,
+    /// Which moment that is, and which cells they are.
+    cells: DiskCells,
 }
 
 /// Appends what is apart, after what stands there already.
@@ -23,50 +26,31 @@ fn push_apart(told: &mut String, is_first: bool) -> Result<(), AllocError> {
     told.push_str(if is_first { ", but for " } else { "; " })
 }
 
-/// What is told of a directory.
-fn told_of(
-    alloc: Global,
-    window: &Window,
-    moment: usize,
-    directory: &Directory,
-) -> Result<String, AllocError> {
-    let changes = window.changes();
-    let mut told = format!(in alloc;
-        "{moment} of {changes} changes since the last sync are there"
-    )?;
-    let mut is_first = true;
-    for name in &directory.names_apart {
-        push_apart(&mut told, is_first)?;
-        let name = String::from_utf8_lossy(alloc, name.as_slice())?;
-        write!(told, "the name {name}")?;
-        is_first = false;
+/// The name of the file at a place; nothing where there is none.
+fn name_at(files: &FileList, place: usize) -> &[u8] {
+    if place < files.count() {
+        files.name(place)
+    } else {
+        &[]
     }
-    Ok(told)
 }
 
-/// What is told of a list with a file more.
-fn told_with(
+/// Appends a cell that is apart.
+fn push_cell(
     alloc: Global,
-    listed: &Listed,
-    name: &[u8],
-    content: &Content,
-) -> Result<String, AllocError> {
-    let mut told = String::from_str(alloc, listed.told.as_str())?;
-    let name = String::from_utf8_lossy(alloc, name)?;
-    let mut is_first = listed.apart == 0;
-    for cell in &content.apart {
-        push_apart(&mut told, is_first)?;
-        match *cell {
-            ApartCell::Length => write!(told, "the length of {name}")?,
-            ApartCell::Bytes(cell) => {
-                let begin = cell.saturating_mul(CELL);
-                let last = begin.saturating_add(CELL.saturating_sub(1));
-                write!(told, "bytes {begin} to {last} of {name}")?;
-            }
+    told: &mut String,
+    files: &FileList,
+    it: CellOfFile,
+) -> Result<(), AllocError> {
+    let name = String::from_utf8_lossy(alloc, name_at(files, it.place))?;
+    match it.cell {
+        ApartCell::Length { .. } => write!(told, "the length of {name}"),
+        ApartCell::Bytes { cell, .. } => {
+            let begin = cell.saturating_mul(CELL);
+            let last = begin.saturating_add(CELL.saturating_sub(1));
+            write!(told, "bytes {begin} to {last} of {name}")
         }
-        is_first = false;
     }
-    Ok(told)
 }
 
 /// What was enumerated.
@@ -96,11 +80,11 @@ fn with_file(
 }
 
 impl Lists {
-    /// Each list with a file of this name, which holds one of the contents, where no more than so many cells are then apart.
+    /// Each list with a file of this name and number, which holds one of the contents, where no more than so many cells are then apart.
     fn with_each(
         &self,
         alloc: Global,
-        name: &[u8],
+        (name, number): (&[u8], u64),
         contents: &[Content],
         most: u32,
     ) -> Result<Lists, AllocError> {
@@ -116,8 +100,12 @@ impl Lists {
                     continue;
                 }
                 let files = with_file(alloc, &listed.files, name, content.bytes.as_slice())?;
-                let told = told_with(alloc, listed, name, content)?;
-                next.lists.push(Listed { files, apart, told })?;
+                let cells = listed.cells.with_file(alloc, number, content)?;
+                next.lists.push(Listed {
+                    files,
+                    apart,
+                    cells,
+                })?;
             }
         }
         Ok(next)
@@ -143,6 +131,8 @@ pub struct Enumeration<'a> {
     model: CrashModel,
     /// Of each file that lives at some moment.
     choices: Vec<Choices>,
+    /// Of each change.
+    effects: Vec<Effect>,
 }
 
 impl<'a> Enumeration<'a> {
@@ -167,6 +157,7 @@ impl<'a> Enumeration<'a> {
             window,
             model,
             choices,
+            effects: effects_of(alloc, window)?,
         })
     }
 
@@ -202,16 +193,17 @@ impl<'a> Enumeration<'a> {
         let mut first = Vec::new(alloc);
         first.push(Listed {
             files: FileList::new(alloc),
-            apart: directory.apart,
-            told: told_of(alloc, self.window, moment, directory)?,
+            apart: directory.count_apart(),
+            cells: DiskCells::new(alloc, moment, directory.apart.as_slice())?,
         })?;
         let mut lists = Lists {
             lists: first,
             is_cut: false,
         };
-        for (name, number) in sorted(alloc, directory)? {
+        for file in sorted(alloc, directory)? {
+            let (_, number) = file;
             let (contents, is_cut) = self.contents(alloc, number, moment, most)?;
-            lists = lists.with_each(alloc, name, contents.as_slice(), most)?;
+            lists = lists.with_each(alloc, file, contents.as_slice(), most)?;
             lists.is_cut = lists.is_cut || is_cut;
         }
         Ok(lists)
@@ -231,5 +223,95 @@ impl<'a> Enumeration<'a> {
             all.is_cut = all.is_cut || lists.is_cut;
         }
         Ok(all)
+    }
+
+    /// The first of the names that a change changes, as a text.
+    fn name_of(&self, alloc: Global, change: usize) -> Result<String, AllocError> {
+        match self.effects.get(change) {
+            Some(
+                Effect {
+                    name: Some(name),
+                    ..
+                },
+            ) => String::from_utf8_lossy(alloc, name.as_slice()),
+            _ => Ok(String::new(alloc)),
+        }
+    }
+
+    /// Which changes are there in a list, in words: those before the common moment, but for the cells that are apart.
+    pub fn told(&self, alloc: Global, listed: &Listed) -> Result<String, AllocError> {
+        let (moment, changes) = (listed.cells.common, self.window.changes());
+        let mut told = format!(in alloc;
+            "{moment} of {changes} changes since the last sync are there"
+        )?;
+        let mut is_first = true;
+        for change in &listed.cells.names {
+            push_apart(&mut told, is_first)?;
+            let name = self.name_of(alloc, *change)?;
+            write!(told, "the name {name}")?;
+            is_first = false;
+        }
+        for it in &listed.cells.apart {
+            push_apart(&mut told, is_first)?;
+            push_cell(alloc, &mut told, &listed.files, *it)?;
+            is_first = false;
+        }
+        Ok(told)
+    }
+
+    /// Whether a list is past the last name of a file.
+    fn is_past(&self, cells: &DiskCells, number: u64) -> bool {
+        (0..self.effects.len()).any(|change| match self.effects.get(change) {
+            Some(effect) => effect.gone == Some(number) && cells.has_names(change),
+            None => false,
+        })
+    }
+
+    /// The moment of a part of a file. A file that has no name in a list is as at the end, if it lost its last name there, and else as at
+    /// the sync.
+    fn moment_of(&self, cells: &DiskCells, number: u64, part: Part) -> usize {
+        match cells.place(number) {
+            Some(place) => cells.moment_of(place, part),
+            None if self.is_past(cells, number) => self.window.changes(),
+            None => 0,
+        }
+    }
+
+    /// Adds the parts that a change changes of a file.
+    fn push_parts(
+        &self,
+        cells: &DiskCells,
+        file: &FileEffect,
+        parts: &mut Vec<PartOnDisk>,
+    ) -> Result<(), AllocError> {
+        for part in &file.parts {
+            parts.push(PartOnDisk {
+                part: *part,
+                moment: self.moment_of(cells, file.number, *part),
+            })?;
+        }
+        Ok(())
+    }
+
+    /// How much a list has of the change after a moment.
+    pub fn on_disk(
+        &self,
+        alloc: Global,
+        listed: &Listed,
+        change: usize,
+    ) -> Result<ChangeOnDisk, AllocError> {
+        let mut parts = Vec::new(alloc);
+        if let Some(effect) = self.effects.get(change) {
+            if effect.name.is_some() {
+                parts.push(PartOnDisk {
+                    part: Part::Names,
+                    moment: listed.cells.moment_of_names(change),
+                })?;
+            }
+            if let Some(file) = &effect.file {
+                self.push_parts(&listed.cells, file, &mut parts)?;
+            }
+        }
+        Ok(ChangeOnDisk { change, parts })
     }
 }

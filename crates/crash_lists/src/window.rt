@@ -11,6 +11,8 @@ pub const CELL: usize = 512;
 #[derive(Drop)]
 pub struct Window {
     moments: Vec<FileTable>,
+    /// How many changes were made since the boot, by the last moment.
+    made: u64,
 }
 
 /// The number of the cell in which a byte lies.
@@ -21,16 +23,40 @@ fn cell_of(place: usize) -> usize
 }
 
 impl Window {
-    /// The window that a sync begins, with the files then.
-    pub fn new(alloc: Global, files: FileTable) -> Result<Window, AllocError> {
+    /// The window that a sync begins, with the files then. So many changes were made since the boot.
+    pub fn new(alloc: Global, made: u64, files: &FileTable) -> Result<Window, AllocError> {
         let mut moments = Vec::new(alloc);
-        moments.push(files)?;
-        Ok(Window { moments })
+        moments.push(files.try_clone()?)?;
+        Ok(Window { moments, made })
     }
 
-    /// Adds the files after one more change.
-    pub fn push(&mut self, files: FileTable) -> Result<(), AllocError> {
+    /// The same, in memory of its own.
+    pub fn try_clone(&self, alloc: Global) -> Result<Window, AllocError> {
+        let mut moments = Vec::with_capacity(alloc, self.moments.len())?;
+        for files in &self.moments {
+            moments.push(files.try_clone()?)?;
+        }
+        Ok(Window {
+            moments,
+            made: self.made,
+        })
+    }
+
+    /// A sync begins it anew, with the files then. So many changes were made since the boot.
+    pub fn begin_anew(&mut self, made: u64, files: &FileTable) -> Result<(), AllocError> {
+        let files = files.try_clone()?;
+        self.moments.clear();
         self.moments.push(files)?;
+        self.made = made;
+        Ok(())
+    }
+
+    /// Adds the files, where a change made others of them: so many were made since the boot.
+    pub fn note(&mut self, made: u64, files: &FileTable) -> Result<(), AllocError> {
+        if made != self.made {
+            self.moments.push(files.try_clone()?)?;
+            self.made = made;
+        }
         Ok(())
     }
 

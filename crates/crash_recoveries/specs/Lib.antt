@@ -1,2 +1,3 @@
 -- The definitions.
+pub mod Batches
 pub mod Verdicts

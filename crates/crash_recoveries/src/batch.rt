@@ -1,5 +1,6 @@
 //! `Batch`: disks on which the recovery is run together, and again after its own crashes.
-ghost use Rattle.std.specs.Prelude.{◌≡◌, ◌==◌, not, IfOk, MatchOption, vec_len};
+ghost use Rattle.std.specs.Prelude.{◌≡◌, None, IfOk, MatchOption, OnOk, position, slice_get, vec_len};
+ghost use Rattle.crash_recoveries.specs.Batches.{has_failed};
 
 use crate::asked::Asked;
 use crate::nested::NestedCrash;
@@ -46,9 +47,30 @@ fn more_after(chain: &[CrashPoint], nested: u32) -> u32 {
     nested.saturating_sub(before).saturating_sub(1)
 }
 
+/// Where among what came of recoveries the first is that failed, if one did.
+fn first_failed(all: &[Ran]) -> Option<usize>
+    ensures { result ≡ position has_failed all.now }
+{
+    all.iter().position(|ran| ran.status != 0)
+}
+
+/// The job at a place, if there is one.
+fn nth(jobs: Vec<Job>, place: usize) -> Option<Job>
+    ensures { result ≡ slice_get jobs.items place }
+{
+    let mut jobs = jobs;
+    if place < jobs.len() {
+        Some(jobs.swap_remove(place))
+    } else {
+        None
+    }
+}
+
 impl Batch {
     /// Before any recovery.
-    pub fn new(alloc: Global, disks: Vec<Pending>, seen: Vec<Seen>) -> Result<Batch, AllocError> {
+    pub fn new(alloc: Global, disks: Vec<Pending>, seen: Vec<Seen>) -> Result<Batch, AllocError>
+        ensures { IfOk result (λ batch. batch.failed ≡ None) }
+    {
         Ok(Batch {
             jobs: first_jobs(alloc, disks.len())?,
             disks,
@@ -119,7 +141,7 @@ impl Batch {
         Ok(())
     }
 
-    /// Takes what came of a recovery. Whether it failed.
+    /// Takes what came of a recovery.
     fn take(
         &mut self,
         alloc: Global,
@@ -127,21 +149,34 @@ impl Batch {
         ran: Ran,
         nested: u32,
         tried: &mut Tried,
-    ) -> Result<bool, AllocError>
-        ensures { IfOk result (λ has_failed. has_failed ≡ not (ran.status == 0)) }
-    {
+    ) -> Result<(), AllocError> {
         let Ran {
-            status,
             asked,
             crashes,
             left,
+            ..
         } = ran;
         self.count(job.disk, crashes);
         self.asked.join(alloc, &asked)?;
         for crash in left {
             self.follow(alloc, job, crash, nested, tried)?;
         }
-        Ok(status != 0)
+        Ok(())
+    }
+
+    /// Takes what came of recoveries, in their order.
+    fn take_all(
+        &mut self,
+        alloc: Global,
+        jobs: &[Job],
+        all: Vec<Ran>,
+        nested: u32,
+        tried: &mut Tried,
+    ) -> Result<(), AllocError> {
+        for (job, ran) in jobs.iter().zip(all) {
+            self.take(alloc, job, ran, nested, tried)?;
+        }
+        Ok(())
     }
 
     /// Takes what came of the recoveries that were to be run, in their order, up to the first that failed. Those that are to be run next
@@ -149,18 +184,25 @@ impl Batch {
     pub fn sort_out(
         &mut self,
         alloc: Global,
-        all: Vec<Ran>,
+        mut all: Vec<Ran>,
         nested: u32,
         tried: &mut Tried,
-    ) -> Result<(), AllocError> {
+    ) -> Result<(), AllocError>
+        ensures { OnOk result (MatchOption (position has_failed all.items) (self.new.failed ≡ self.old.failed)
+            (λ place. self.new.failed ≡ slice_get self.old.jobs.items place)) }
+    {
+        let failed = first_failed(all.as_slice());
+        if let Some(place) = failed {
+            all.truncate(place.saturating_add(1));
+        }
+        let failed_before = self.failed.take();
         let mut jobs = Vec::new(alloc);
         jobs.append(&mut self.jobs)?;
-        for (job, ran) in jobs.into_iter().zip(all) {
-            if self.take(alloc, &job, ran, nested, tried)? {
-                self.failed = Some(job);
-                break;
-            }
-        }
+        self.take_all(alloc, jobs.as_slice(), all, nested, tried)?;
+        self.failed = match failed {
+            Some(place) => nth(jobs, place),
+            None => failed_before,
+        };
         let last = self.last();
         self.jobs.retain(|job| job.disk < last);
         Ok(())

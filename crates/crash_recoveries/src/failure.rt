@@ -41,7 +41,8 @@ impl Failure {
         }
     }
 
-    /// Prints the crash, what was promised before it, the crashes of recoveries after it, and what the last recovery came to.
+    /// Prints the crash, what was promised before it, the crashes of recoveries after it, and what the last recovery came to. Then, by
+    /// another rule than bench's, which changes were there.
     pub fn print<O: Write>(&self, out: &mut O) -> io::Result<()> {
         self.point.print(out)?;
         print_text("shown", self.tape(), out)?;
@@ -51,7 +52,9 @@ impl Failure {
         }
         let status = status_of_run(&self.core, self.ending);
         write!(out, "recovery status {status} ")?;
-        print_text("shown", self.core.shown(0), out)
+        print_text("shown", self.core.shown(0), out)?;
+        let changes = self.point.told.changes.as_str();
+        write!(out, "{changes}")
     }
 
     /// Prints why the recovery ended as it did, and last which crash it is.

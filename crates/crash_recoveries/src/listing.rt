@@ -4,7 +4,9 @@ use crate::point::CrashPlace;
 use crate::promise::Promise;
 use crate::stop::Stop;
 use crate::taker::Taker;
-use crate::windows::{Rule, WindowTrier};
+use crate::told::Told;
+use crate::window_lists::Rule;
+use crate::windows::WindowTrier;
 use crash_outcomes::outcome_of;
 use faults::Fault;
 use files::FileList;
@@ -29,7 +31,7 @@ impl<O: Write> Taker for Lister<'_, O> {
         files: &FileList,
         _promise: &Promise,
         place: CrashPlace,
-        _told: &str,
+        _told: Told<'_>,
     ) -> Result<(), Stop> {
         let outcome = outcome_of(self.alloc, files)?;
         let line = outcome.as_str();

@@ -2,7 +2,7 @@
 use crate::asked::Asked;
 use crate::digests::digest_of_files;
 use crate::mirror::{Mirror, differ_by_fill};
-use crate::point::{CrashPlace, CrashPoint};
+use crate::point::{CrashPlace, CrashPoint, Telling};
 use crate::running::Ran;
 use crash_outcomes::{FILLS, Fill, Moment, moment_of, outcome_of};
 use faults::Fault;
@@ -77,7 +77,7 @@ impl Nested {
         let point = CrashPoint {
             place: CrashPlace::Filled(moment, fill),
             outcome: outcome_of(alloc, files.list())?,
-            told: String::new(alloc),
+            told: Telling::none(alloc),
         };
         self.left.push(NestedCrash { point, digest })?;
         Ok(())

@@ -1,5 +1,5 @@
 //! Disks on which the recovery is to be run.
-use crate::point::{Chain, CrashPlace, CrashPoint};
+use crate::point::{Chain, CrashPlace, CrashPoint, Telling};
 use crate::promise::Promise;
 use crash_outcomes::outcome_of;
 use files::FileList;
@@ -36,7 +36,7 @@ impl Tally {
 #[derive(Drop)]
 pub struct Pending {
     pub place: CrashPlace,
-    pub told: String,
+    pub told: Telling,
     pub files: FileList,
     /// What tells the files from others.
     pub digest: String,
@@ -53,7 +53,7 @@ impl Pending {
         Ok(CrashPoint {
             place: self.place,
             outcome: outcome_of(alloc, &self.files)?,
-            told: String::from_str(alloc, self.told.as_str())?,
+            told: self.told.try_clone(alloc)?,
         })
     }
 }

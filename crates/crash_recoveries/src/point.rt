@@ -12,8 +12,8 @@ pub enum CrashPlace {
     /// At this moment, and by another rule than bench's so many cells are not as at one moment.
     Apart(Moment, u32),
     /// After an order of calls, when all that they did was committed: of the orders that came to a new disk with its promise the one of
-    /// this number, from 1.
-    Order(u64),
+    /// this number, from 1. By another rule than bench's it need not be committed, and so many cells are not as at one moment.
+    Order(u64, Option<u32>),
 }
 
 /// A crash, and the files that it left, as a line.
@@ -21,8 +21,16 @@ pub enum CrashPlace {
 pub struct CrashPoint {
     pub place: CrashPlace,
     pub outcome: String,
-    /// By another rule than bench's, which changes are there, in words; of an order, whose calls it has.
-    pub told: String,
+    pub told: Telling,
+}
+
+/// What is told of a crash, beside when it came and what it left.
+#[derive(Drop)]
+pub struct Telling {
+    /// Lines: of an order, whose calls it has; by another rule than bench's, which changes are there.
+    pub summary: String,
+    /// By another rule than bench's, a line for each change since the last sync.
+    pub changes: String,
 }
 
 impl fmt::Display for CrashPlace {
@@ -34,8 +42,52 @@ impl fmt::Display for CrashPlace {
             CrashPlace::Apart(Moment { boot, event, .. }, count) => {
                 write!(f, "boot {boot} event {event} apart {count}")
             }
-            CrashPlace::Order(number) => write!(f, "order {number}"),
+            CrashPlace::Order(number, None) => write!(f, "order {number}"),
+            CrashPlace::Order(number, Some(count)) => write!(f, "order {number} apart {count}"),
         }
+    }
+}
+
+impl Telling {
+    /// Nothing. Takes no memory.
+    pub fn none(alloc: Global) -> Telling {
+        Telling {
+            summary: String::new(alloc),
+            changes: String::new(alloc),
+        }
+    }
+
+    /// The same, in memory of its own.
+    pub fn try_clone(&self, alloc: Global) -> Result<Telling, AllocError> {
+        Ok(Telling {
+            summary: String::from_str(alloc, self.summary.as_str())?,
+            changes: String::from_str(alloc, self.changes.as_str())?,
+        })
+    }
+}
+
+impl CrashPlace {
+    /// The same by another rule than bench's, where so many cells are not as at one moment.
+    pub fn with_apart(self, count: u32) -> CrashPlace {
+        match self {
+            CrashPlace::Filled(moment, _) | CrashPlace::Apart(moment, _) => {
+                CrashPlace::Apart(moment, count)
+            }
+            CrashPlace::Order(number, _) => CrashPlace::Order(number, Some(count)),
+        }
+    }
+
+    /// The same after the order of this number, if it is after one.
+    pub fn numbered(self, number: u64) -> CrashPlace {
+        match self {
+            CrashPlace::Order(_, apart) => CrashPlace::Order(number, apart),
+            place => place,
+        }
+    }
+
+    /// Whether it is a crash by another rule than bench's.
+    pub fn is_by_rule(self) -> bool {
+        matches!(self, CrashPlace::Apart(..) | CrashPlace::Order(_, Some(_)))
     }
 }
 
@@ -45,7 +97,7 @@ impl CrashPoint {
         Ok(CrashPoint {
             place: self.place,
             outcome: String::from_str(alloc, self.outcome.as_str())?,
-            told: String::from_str(alloc, self.told.as_str())?,
+            told: self.told.try_clone(alloc)?,
         })
     }
 
@@ -55,9 +107,9 @@ impl CrashPoint {
         let place = self.place;
         match place {
             CrashPlace::Filled(moment, fill) => print_outcome(moment, fill, outcome, out),
-            CrashPlace::Apart(..) | CrashPlace::Order(_) => {
-                let told = self.told.as_str();
-                writeln!(out, "{place} {outcome}\n{told}")
+            CrashPlace::Apart(..) | CrashPlace::Order(..) => {
+                let summary = self.told.summary.as_str();
+                write!(out, "{place} {outcome}\n{summary}")
             }
         }
     }
@@ -66,7 +118,7 @@ impl CrashPoint {
     pub fn events(&self) -> u64 {
         match self.place {
             CrashPlace::Filled(moment, _) | CrashPlace::Apart(moment, _) => moment.event,
-            CrashPlace::Order(_) => 0,
+            CrashPlace::Order(..) => 0,
         }
     }
 
@@ -74,7 +126,7 @@ impl CrashPoint {
     pub fn fill(&self) -> Fill {
         match self.place {
             CrashPlace::Filled(_, fill) => fill,
-            CrashPlace::Apart(..) | CrashPlace::Order(_) => Fill::Unchanged,
+            CrashPlace::Apart(..) | CrashPlace::Order(..) => Fill::Unchanged,
         }
     }
 }

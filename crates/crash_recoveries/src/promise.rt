@@ -1,5 +1,5 @@
 //! What a run had promised when a crash came.
-ghost use Rattle.std.specs.Prelude.{◌≡◌, ◌++◌, IfOk};
+ghost use Rattle.std.specs.Prelude.{◌≡◌, ◌≤◌, ◌↔◌, ◌++◌, IfOk, IsTrue, vec_len};
 ghost use Rattle.kernel_model.specs.Answers.{now};
 ghost use Rattle.kernel_model.specs.Shown.{shown as shown_of, printed as given_to};
 ghost use Rattle.kernel_model.specs.Views.{contents};
@@ -50,7 +50,9 @@ impl Promise {
     }
 
     /// The same, in memory of its own.
-    pub fn try_clone(&self, alloc: Global) -> Result<Promise, AllocError> {
+    pub fn try_clone(&self, alloc: Global) -> Result<Promise, AllocError>
+        ensures { IfOk result (λ promise. promise.shown.items ≡ self.now.shown.items) }
+    {
         Ok(Promise {
             shown: Vec::from_slice(alloc, self.shown.as_slice())?,
             digest: String::from_str(alloc, self.digest.as_str())?,
@@ -58,7 +60,9 @@ impl Promise {
     }
 
     /// Whether a tape can hold it.
-    pub fn fits(&self) -> bool {
+    pub fn fits(&self) -> bool
+        ensures { IsTrue result ↔ vec_len self.now.shown ≤ 65536 }
+    {
         self.shown.len() <= MOST_TAPE_BYTES
     }
 

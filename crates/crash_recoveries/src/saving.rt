@@ -1,7 +1,7 @@
 //! `save`: a failure as two scripts.
 use crate::course::play_some;
 use crate::failure::Failure;
-use crate::point::{CrashPlace, CrashPoint};
+use crate::point::CrashPoint;
 use crate::recovery::RecoveryProgram;
 use faults::{Fault, at_path};
 use kernel::{Core, Event};
@@ -30,7 +30,7 @@ fn run_script<R: AllocGlobal>(
     write_setup(rt.alloc(), setup, &mut script)?;
     script.extend_from_slice(played.as_bytes())?;
     writeln!(script, "shown 0")?;
-    if !matches!(failure.point.place, CrashPlace::Apart(..)) {
+    if !failure.point.place.is_by_rule() {
         let fill = failure.point.fill();
         writeln!(script, "crash {fill}\nfiles")?;
     }

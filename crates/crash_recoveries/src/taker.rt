@@ -2,10 +2,11 @@
 use crate::point::CrashPlace;
 use crate::promise::Promise;
 use crate::stop::Stop;
+use crate::told::Told;
 use files::FileList;
 use std::thread::Threads;
 
-/// Takes files that a crash may leave, with what was promised before it, and which changes are there, in words.
+/// Takes files that a crash may leave, with what was promised before it.
 pub trait Taker {
     ghost use denote.Param.Send.{IsSync};
 
@@ -14,7 +15,7 @@ pub trait Taker {
         files: &FileList,
         promise: &Promise,
         place: CrashPlace,
-        told: &str,
+        told: Told<'_>,
     ) -> Result<(), Stop>;
 
     /// Is told that so many more crashes leave the same.

@@ -1,4 +1,7 @@
 //! Runs the recovery on what crashes leave.
+ghost use Rattle.std.specs.Prelude.{◌≡◌, true, is_some, Err, None, OnOk};
+ghost use Rattle.crash_recoveries.specs.declared.stop.Stop.TheVariants.{Failed};
+
 use crate::batch::{Batch, Seen};
 use crate::crew::{Work, run_all};
 use crate::digests::digest_of_files;
@@ -12,6 +15,7 @@ use crate::running::{Ran, failure_of};
 use crate::sights::{Sight, Sights};
 use crate::stop::Stop;
 use crate::taker::Taker;
+use crate::told::Told;
 use crate::tried::Tried;
 use faults::Fault;
 use files::FileList;
@@ -260,15 +264,24 @@ impl<'a, R: Files + AllocGlobal, E: Write> Tester<'a, R, E> {
     }
 
     /// Keeps the first recovery of a batch that failed, if one did.
-    fn judge(&mut self, batch: Batch) -> Result<(), Stop> {
+    fn judge(&mut self, batch: Batch) -> Result<(), Stop>
+        ensures failed { OnOk result (batch.failed ≡ None) }
+        ensures kept { result ≡ Err Failed → is_some self.new.failure ≡ true }
+    {
         let Batch { disks, failed, .. } = batch;
         let Some(Job { disk, chain }) = failed else {
             return Ok(());
         };
-        if let Some(disk) = disks.get(disk) {
-            self.failure = Some(failure_of(self.rt, self.program, disk, chain)?);
+        let Some(disk) = disks.get(disk) else {
+            return Err(Stop::Fault(Fault::OutOfMemory));
+        };
+        match failure_of(self.rt, self.program, disk, chain) {
+            Ok(failure) => {
+                self.failure = Some(failure);
+                Err(Stop::Failed)
+            }
+            Err(fault) => Err(Stop::Fault(fault)),
         }
-        Err(Stop::Failed)
     }
 
     /// Runs the recovery on what is still pending when the run is over, and says how all ended.
@@ -293,7 +306,7 @@ impl<R: Files + AllocGlobal, E: Write> Taker for Tester<'_, R, E> {
         files: &FileList,
         promise: &Promise,
         place: CrashPlace,
-        told: &str,
+        told: Told<'_>,
     ) -> Result<(), Stop> {
         if !promise.fits() {
             return Err(Stop::TooLong);
@@ -306,7 +319,7 @@ impl<R: Files + AllocGlobal, E: Write> Taker for Tester<'_, R, E> {
         }
         self.taken.push(Pending {
             place,
-            told: String::from_str(alloc, told)?,
+            told: told.telling(alloc)?,
             files: files.try_clone()?,
             digest,
             promise: promise.try_clone(alloc)?,

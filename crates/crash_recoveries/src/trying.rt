@@ -8,6 +8,7 @@ use crate::point::CrashPlace;
 use crate::promise::Promise;
 use crate::stop::Stop;
 use crate::taker::Taker;
+use crate::told::Told;
 use crash_outcomes::{FILLS, Fill, Moment, PassedOver, moment_of};
 use exec_runs::Ending;
 use files::FileTable;
@@ -111,7 +112,12 @@ fn hand_out<T: Taker>(crashes: &Crashes, taker: &mut T) -> Result<(), Stop> {
     let mut others = FILLS.len() as u64;
     for crashed in &crashes.left {
         let place = CrashPlace::Filled(crashes.moment, crashed.fill);
-        taker.take(crashed.files.list(), &crashes.promise, place, "")?;
+        taker.take(
+            crashed.files.list(),
+            &crashes.promise,
+            place,
+            Told::nothing(),
+        )?;
         others = others.saturating_sub(1);
     }
     taker.again(others);

@@ -1,7 +1,9 @@
 //! `try_recoveries`: whether the user's recovery gets over each crash of a run.
-ghost use Rattle.std.specs.Prelude.{◌≡◌, true, is_some, IfOk, Ok};
+ghost use Rattle.std.specs.Prelude.{◌≡◌, true, is_some, IfErr, IfOk, Err, None, Ok};
 ghost use Rattle.exec_runs.specs.declared.ending.Ending.TheVariants.{Over};
 ghost use Rattle.crash_recoveries.specs.Verdicts.{is_failed, is_kept};
+ghost use Rattle.crash_recoveries.specs.declared.stop.Stop.TheVariants.{Fault as StoppedBy};
+ghost use Rattle.crash_recoveries.specs.declared.verdict.Verdict.TheVariants.{Kept};
 
 use crate::course::{Course, RunEnd};
 use crate::effort::{Effort, Part};
@@ -13,7 +15,8 @@ use crate::stop::Stop;
 use crate::taker::Taker;
 use crate::testing::Tester;
 use crate::trying::Trier;
-use crate::windows::{Bound, Rule, WindowTrier};
+use crate::window_lists::{Bound, Rule};
+use crate::windows::WindowTrier;
 use crash_outcomes::{Moment, PassedOver};
 use exec_runs::Ending;
 use faults::Fault;
@@ -60,8 +63,8 @@ pub enum Untried {
     Passed(PassedOver),
     /// What is past this bound, if no recovery failed.
     Past(Option<Bound>),
-    /// What a search did not come to, which came so far, if it came to its end.
-    Orders(Option<SearchedStates>),
+    /// What a search did not come to, which came so far, if it came to its end; and by another rule than bench's what is past this bound.
+    Orders(Option<SearchedStates>, Option<Bound>),
 }
 
 /// How far a search of all orders of calls came. It prints as the beginning of a line.
@@ -70,11 +73,13 @@ pub struct SearchedStates {
     pub states: u64,
     /// How many calls were tried that do something.
     pub calls: u64,
+    /// Whether no state was left, and each process came to its next call.
+    pub is_whole: bool,
 }
 
 impl fmt::Display for SearchedStates {
     fn fmt<W: fmt::Write>(&self, f: &mut fmt::Formatter<W>) -> fmt::Result {
-        let SearchedStates { states, calls } = self;
+        let SearchedStates { states, calls, .. } = self;
         write!(f, "{states} states, {calls} calls, ")
     }
 }
@@ -200,6 +205,14 @@ fn print_part<O: Write>(part: Part, tally: Tally, out: &mut O) -> io::Result<()>
     )
 }
 
+/// Prints the bound up to which all was tried, if there is one.
+fn print_bound<O: Write>(bound: Option<Bound>, out: &mut O) -> io::Result<()> {
+    match bound {
+        Some(bound) => write!(out, "{bound}"),
+        None => Ok(()),
+    }
+}
+
 /// Prints how much was tried, and what was not.
 fn print_untried<O: Write>(
     disks: usize,
@@ -209,14 +222,15 @@ fn print_untried<O: Write>(
 ) -> io::Result<()> {
     match untried {
         Untried::Passed(passed_over) => print_passed(disks, tally, passed_over, out),
-        Untried::Past(None) | Untried::Orders(None) => print_tried(disks, tally, out),
+        Untried::Past(None) | Untried::Orders(None, _) => print_tried(disks, tally, out),
         Untried::Past(Some(bound)) => {
             print_tried(disks, tally, out)?;
             write!(out, "{bound}")
         }
-        Untried::Orders(Some(searched)) => {
+        Untried::Orders(Some(searched), bound) => {
             write!(out, "{searched}")?;
-            print_tried(disks, tally, out)
+            print_tried(disks, tally, out)?;
+            print_bound(bound, out)
         }
     }
 }
@@ -269,7 +283,7 @@ fn failed_lines(
             CrashPlace::Filled(moment, _) | CrashPlace::Apart(moment, _) => {
                 lines_up_to(alloc, played, moment)
             }
-            CrashPlace::Order(_) => Ok(String::new(alloc)),
+            CrashPlace::Order(..) => Ok(String::new(alloc)),
         },
         None => Ok(String::new(alloc)),
     }
@@ -283,6 +297,8 @@ pub fn verdict_of(
 ) -> Result<Verdict, Fault>
     ensures failed { IfOk result (λ verdict. is_failed verdict ≡ is_some failure) }
     ensures kept { IfOk result (λ verdict. is_kept verdict ≡ true → done ≡ Ok Over) }
+    ensures whole { done ≡ Ok Over → failure ≡ None → result ≡ Ok Kept }
+    ensures faults { IfErr result (λ fault. done ≡ Err (StoppedBy fault)) }
 {
     match (done, failure) {
         (Err(Stop::Fault(fault)), _) => Err(fault),

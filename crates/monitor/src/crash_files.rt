@@ -196,13 +196,13 @@ fn judge_orders<R: Files + AllocGlobal + Threads + Sync, O: Write, E: Write>(
     subject: &mut CrashSubject,
     recovery: &Recovery,
     bounds: OrderBounds,
-    effort: Effort,
+    trial: Trial,
     out: &mut O,
     err: &mut E,
 ) -> Result<Judged, Fault> {
     let setup = &mut subject.setup;
     let OrdersTested { tested, calls } = recover_orders(
-        rt, setup, recovery, bounds, effort, out, err,
+        rt, setup, recovery, bounds, trial, out, err,
     )?;
     out.flush()?;
     let Tested { verdict, core } = tested;
@@ -248,7 +248,7 @@ fn test_recovery<R: Files + AllocGlobal + Threads + Sync, O: Write, E: Write>(
 ) -> Result<Judged, Fault> {
     let trial = trial_of(options);
     match options.orders {
-        Some(bounds) => judge_orders(rt, subject, recovery, bounds, trial.effort, out, err),
+        Some(bounds) => judge_orders(rt, subject, recovery, bounds, trial, out, err),
         None => judge_run(rt, subject, recovery, trial, out, err),
     }
 }

@@ -1,14 +1,15 @@
 //! Crashes of all orders of the calls of programs.
-ghost use Rattle.std.specs.Prelude.{◌≡◌, true, false, IfOk};
-ghost use Rattle.crash_recoveries.specs.Verdicts.{is_kept};
+ghost use Rattle.std.specs.Prelude.{◌≡◌, ◌<◌, Err, Ok, if◌then◌else◌};
+ghost use Rattle.crash_recoveries.specs.declared.verdict.Verdict.TheVariants.{Cut, Kept};
+ghost use Rattle.faults.specs.declared.exploration.ExplorationFault.TheVariants.{Cut as StatesLeft};
 
 use crate::exploring::limits_of;
 use command_line::OrderBounds;
 use crash_recoveries::{
-    Effort, Orders, OrdersTried, Recovery, SearchedStates, Stop, Tested, Verdict,
+    Effort, OrderState, Orders, OrdersTried, Recovery, SearchedStates, Stop, Tested, Trial, Verdict,
 };
 use explored_runs::{
-    ExploredStates, StateTaker, VisitedState, end_of_calls, explore_states, lines_of_calls,
+    ExploredStates, StateTaker, VisitedState, Visits, end_of_calls, explore_states, lines_of_calls,
 };
 use faults::{ExplorationFault, Fault};
 use progress::{Progress, ProgressCount};
@@ -52,7 +53,7 @@ impl<R: Files + AllocGlobal, E: Write> Handing<'_, '_, R, E> {
 impl<R: Files + AllocGlobal, E: Write> StateTaker for Handing<'_, '_, R, E> {
     type Fault = Stop;
 
-    /// It is settled after each state: so what is printed is the same, however many states come at once.
+    /// Each state is taken by itself: so what is printed is the same, however many states come at once.
     fn take<T: Threads + Sync>(
         &mut self,
         rt: &T,
@@ -60,10 +61,20 @@ impl<R: Files + AllocGlobal, E: Write> StateTaker for Handing<'_, '_, R, E> {
         left: usize,
     ) -> Result<(), Stop> {
         let mut left = left.saturating_add(states.len());
-        for state in &states {
-            let (shown, calls) = (state.shown.as_slice(), state.calls.as_slice());
-            self.orders.take(&state.files, shown, calls)?;
-            self.orders.settle(rt)?;
+        for state in states {
+            let VisitedState {
+                calls,
+                files,
+                shown,
+                window,
+            } = state;
+            let state = OrderState {
+                calls: calls.as_slice(),
+                files: &files,
+                shown: shown.as_slice(),
+                window,
+            };
+            self.orders.take(rt, state)?;
             self.done = self.done.saturating_add(1);
             left = left.saturating_sub(1);
             self.tell(left);
@@ -78,21 +89,25 @@ fn parted(
 ) -> (Option<ExploredStates>, Result<SearchedStates, Stop>) {
     match explored {
         Ok(explored) => {
-            let (states, calls) = (explored.totals.states, explored.totals.calls);
-            (Some(explored), Ok(SearchedStates { states, calls }))
+            let searched = SearchedStates {
+                states: explored.totals.states,
+                calls: explored.totals.calls,
+                is_whole: explored.totals.left == 0 && !explored.runs_on,
+            };
+            (Some(explored), Ok(searched))
         }
         Err(stop) => (None, Err(stop)),
     }
 }
 
 /// The verdict where no recovery failed and the search came so far. Where it left states, that is the fault.
-fn verdict_of(explored: &ExploredStates) -> Result<Verdict, Fault>
-    ensures whole { IfOk result (λ _. explored.now.totals.left ≡ 0) }
-    ensures kept { IfOk result (λ verdict. is_kept verdict ≡ true → explored.now.runs_on ≡ false) }
+fn verdict_of(explored: &ExploredStates) -> Result<Verdict, ExplorationFault>
+    ensures left { 0 < explored.now.totals.left → result ≡ Err (StatesLeft explored.now.totals.left explored.now.totals.depth) }
+    ensures whole { explored.now.totals.left ≡ 0 → result ≡ Ok (if explored.now.runs_on then Cut else Kept) }
 {
     let (left, calls) = (explored.totals.left, explored.totals.depth);
     if left > 0 {
-        return Err(Fault::from(ExplorationFault::Cut { left, calls }));
+        return Err(ExplorationFault::Cut { left, calls });
     }
     Ok(if explored.runs_on {
         Verdict::Cut
@@ -151,33 +166,41 @@ fn all_well(alloc: Global, verdict: Verdict) -> OrdersTested {
     }
 }
 
-/// Has the recovery run on what is left by crashes of all orders of the calls of what is set up. Cut where none of those that were run
-/// failed, and a process came to no call in as many instructions as it may have. Where the search left states then, that is the fault.
-/// Where all were run and none failed, it has the end of the first order that `exec` does not end with status 0.
+/// Has the recovery run on what is left by crashes of all orders of the calls of what is set up, by a rule, or by bench's own. Cut where
+/// none of those that were run failed, and a process came to no call in as many instructions as it may have. Where the search left states
+/// then, that is the fault. Where all were run and none failed, it has the end of the first order that `exec` does not end with status 0.
 pub fn recover_orders<R: Files + AllocGlobal + Threads + Sync, O: Write, E: Write>(
     rt: &R,
     setup: &mut Setup,
     recovery: &Recovery,
     bounds: OrderBounds,
-    effort: Effort,
+    trial: Trial,
     out: &mut O,
     err: &mut E,
 ) -> Result<OrdersTested, Fault> {
+    let Trial { rule, effort } = trial;
     let limits = limits_of(bounds, effort.jobs);
+    let visits = match rule {
+        Some(_) => Visits::Windows,
+        None => Visits::States,
+    };
     let mut nowhere = io::sink();
     // The states are told of, and not the recoveries.
     let progress = Progress::new(rt, err, effort.progress);
-    let effort = Effort {
-        progress: false,
-        ..effort
+    let trial = Trial {
+        rule,
+        effort: Effort {
+            progress: false,
+            ..effort
+        },
     };
     let mut handing = Handing {
         rt,
-        orders: Orders::new(rt, recovery, effort, &mut nowhere),
+        orders: Orders::new(rt, recovery, trial, &mut nowhere),
         progress,
         done: 0,
     };
-    let (explored, searched) = parted(explore_states(rt, setup, limits, &mut handing));
+    let (explored, searched) = parted(explore_states(rt, setup, limits, visits, &mut handing));
     let Handing { orders, .. } = handing;
     let tried = orders.finish(rt, searched, out)?;
     let instructions = bounds.instructions;

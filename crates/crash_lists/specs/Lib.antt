@@ -1,0 +1,3 @@
+-- The definitions.
+pub mod Effects
+pub mod Presences
