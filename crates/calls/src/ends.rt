@@ -125,7 +125,7 @@ pub fn close(alloc: Global, descriptors: &Descriptors, fd: u32) -> Result<CallRo
 fn close_there(alloc: Global, descriptor: Descriptor, fd: u32) -> Result<CallRow, AllocError>
     ensures { IfOk result (λ row. IsRow row (row_close (Some descriptor) fd)) }
 {
-    closing_one(alloc, end_of(Some(descriptor)), number(alloc, 0))?.setting(fd as usize, None)
+    closing_one(alloc, end_of(Some(descriptor)), number(0))?.setting(fd as usize, None)
 }
 
 /// The caller of a call on a pipe is told this.

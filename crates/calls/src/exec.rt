@@ -64,7 +64,7 @@ fn exec_image(alloc: Global, file: u64, bytes: &[u8]) -> Result<CallRow, AllocEr
     ensures { IfOk result (λ row. IsRow row (exec_image file bytes.now (first_fault bytes.now))) }
 {
     let row = match parse(alloc, bytes) {
-        Ok(image) => CallRow::only(alloc, with_image(alloc, image)),
+        Ok(image) => CallRow::only(alloc, with_image(alloc, image)?),
         Err(ElfFault::OutOfMemory) => return Err(AllocError),
         Err(_) => CallRow::failure(alloc, Errno::NotAnImage),
     };

@@ -64,7 +64,8 @@ fn pipe_made(
     ensures { IfOk result (λ row. IsRow row (pipe_made pipe at reader writer)) }
 {
     let words = pair_of(alloc, reader as u32, writer as u32)?;
-    CallRow::only(alloc, with_bytes(0, at, words))
+    let told = with_bytes(alloc, 0, at, words)?;
+    CallRow::only(alloc, told)
         .updating_all(&[Carrier::Pipes, Carrier::Pipe(pipe)])?
         .stepping(PipeStep::Open)?
         .setting(reader, Some(Descriptor::Pipe(PipeEnd::Read(pipe))))?

@@ -131,7 +131,8 @@ fn read_tape(
         return CallRow::failure(alloc, Errno::BadDescriptor).reading(Carrier::Tape(tape));
     };
     let copy = Bytes::copy_of(alloc, bytes)?;
-    let mut row = CallRow::only(alloc, with_bytes(bytes.len() as u32, place.at, copy));
+    let told = with_bytes(alloc, bytes.len() as u32, place.at, copy)?;
+    let mut row = CallRow::only(alloc, told);
     row.tape = Some(TapeRead {
         tape,
         count: bytes.len(),
@@ -171,7 +172,8 @@ fn read_file(
         offset: offset + bytes.len() as u32,
         writes: false,
     };
-    CallRow::only(alloc, with_bytes(bytes.len() as u32, place.at, copy)).setting(fd, Some(holds))
+    let told = with_bytes(alloc, bytes.len() as u32, place.at, copy)?;
+    CallRow::only(alloc, told).setting(fd, Some(holds))
 }
 
 /// A read of a pipe that holds nothing gives no bytes where none can write it any more, and waits where some still can.
@@ -201,7 +203,7 @@ fn read_held(alloc: Global, pipe: u32, from: &Pipe, place: Place) -> Result<Call
         return take_some(alloc, pipe, from.prefix(alloc, place.n as usize)?, place.at);
     }
     if from.writers() == 0 {
-        return on_pipe(alloc, pipe, number(alloc, 0));
+        return on_pipe(alloc, pipe, number(0));
     }
     on_pipe(alloc, pipe, Verdict::Waits)
 }
@@ -212,6 +214,7 @@ fn take_some(alloc: Global, pipe: u32, bytes: Bytes, at: u32) -> Result<CallRow,
     ensures { IfOk result (λ row. IsRow row (take_some pipe at (length bytes) bytes)) }
 {
     let count = bytes.as_slice().len();
-    let row = on_pipe(alloc, pipe, with_bytes(count as u32, at, bytes))?;
+    let told = with_bytes(alloc, count as u32, at, bytes)?;
+    let row = on_pipe(alloc, pipe, told)?;
     row.stepping(PipeStep::Take { pipe, count })
 }

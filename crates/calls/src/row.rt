@@ -67,7 +67,7 @@ impl CallRow {
     pub fn number(alloc: Global, a0: u32) -> CallRow
         ensures { IsRow result (only (number a0)) }
     {
-        CallRow::only(alloc, number(alloc, a0))
+        CallRow::only(alloc, number(a0))
     }
 
     /// A reply of an error, which changes nothing.

@@ -51,10 +51,10 @@ fn told_of(alloc: Global, at: u32, ended: EndedChild) -> Result<Verdict, AllocEr
         else with_bytes ended.child at (to_le_bytes w32 ended.status))) }
 {
     if at == 0 {
-        return Ok(number(alloc, ended.child));
+        return Ok(number(ended.child));
     }
     let status = Bytes::copy_of(alloc, &ended.status.to_le_bytes())?;
-    Ok(with_bytes(ended.child, at, status))
+    with_bytes(alloc, ended.child, at, status)
 }
 
 /// A wait with these children, of which the first that has ended, if one has, is this one.

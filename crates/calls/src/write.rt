@@ -198,7 +198,7 @@ fn write_held(alloc: Global, pipe: u32, to: &Pipe, bytes: Bytes) -> Result<CallR
     ensures carries { IfOk result (λ row. IfSome row.edit CarriesBytes) }
 {
     if to.readers() == 0 {
-        return on_pipe(alloc, pipe, number(alloc, Errno::NoReader.reply()));
+        return on_pipe(alloc, pipe, number(Errno::NoReader.reply()));
     }
     let room = to.room();
     if room == 0 {
@@ -215,6 +215,6 @@ fn put_some(alloc: Global, pipe: u32, bytes: &[u8], room: usize) -> Result<CallR
 {
     let taken = part_of(bytes, 0, room);
     let bytes = Bytes::copy_of(alloc, taken)?;
-    let row = on_pipe(alloc, pipe, number(alloc, taken.len() as u32))?;
+    let row = on_pipe(alloc, pipe, number(taken.len() as u32))?;
     row.stepping(PipeStep::Put { pipe, bytes })
 }

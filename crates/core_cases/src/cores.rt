@@ -181,7 +181,7 @@ impl TestCore {
     pub fn replied(&self, alloc: Global, pid: u32) -> Result<Vec<u32>, Error> {
         let mut numbers = Vec::new(alloc);
         for reply in self.replies(pid)? {
-            numbers.push(reply.a0)?;
+            numbers.push(reply.a0())?;
         }
         Ok(numbers)
     }

@@ -52,10 +52,10 @@ fn add_terminals(state: &mut DefaultHasher, core: &TestCore) {
 
 fn add_replies(state: &mut DefaultHasher, replies: &[Reply]) {
     for reply in replies {
-        state.write_u32(reply.a0);
-        state.write_u32(reply.at);
-        reply.bytes.as_slice().hash(state);
-        state.write_u8(u8::from(reply.image.is_some()));
+        state.write_u32(reply.a0());
+        state.write_u32(reply.at());
+        reply.bytes().hash(state);
+        state.write_u8(u8::from(reply.has_image()));
     }
 }
 

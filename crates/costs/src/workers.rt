@@ -7,7 +7,6 @@ ghost use Rattle.kernel_model.specs.World.{terminal_count};
 use crate::ratios::thousandths;
 use anyhow::{Error, bail};
 use assembler::assemble;
-use byte_list::Bytes;
 use executor::{Run, Settings};
 use formats::Reg;
 use kernel::{Core, Program, SimDisk};
@@ -122,13 +121,8 @@ fn time_of<R: AllocGlobal + Clock + Threads + Wait + Sync>(
 const ENOUGH: u64 = 1 << 39;
 
 /// Runs a machine to the end of its program, with 1 as the reply to each of its calls but the last.
-fn run_alone(alloc: Global, machine: &mut Machine) {
-    let reply = Reply {
-        a0: 1,
-        at: 0,
-        bytes: Bytes::empty(alloc),
-        image: None,
-    };
+fn run_alone(machine: &mut Machine) {
+    let reply = Reply::number(1);
     for _ in 0..u32::MAX {
         if machine.count() >= ENOUGH {
             return;
@@ -148,7 +142,7 @@ fn time_alone<R: AllocGlobal + Clock>(rt: &R, source: &str) -> Result<Duration, 
     let start = Instant::now(rt)?;
     for _ in 0..PROGRAMS {
         let mut machine = Machine::load(alloc, &image)?;
-        run_alone(alloc, &mut machine);
+        run_alone(&mut machine);
     }
     Ok(start.elapsed(rt)?)
 }

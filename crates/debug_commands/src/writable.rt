@@ -79,7 +79,7 @@ impl Writable {
     /// time.
     pub fn add_replies(&mut self, trace: &[Reply]) -> Result<(), AllocError> {
         for reply in trace.get(self.replies..).unwrap_or_default() {
-            if let Some(image) = &reply.image {
+            if let Some(image) = reply.image() {
                 self.add(image)?;
             }
         }

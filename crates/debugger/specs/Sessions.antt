@@ -2,6 +2,7 @@
 use Rattle.std.specs.Prelude.{◌≡◌, ℕ, ◌+◌, ◌%◌, ◌⊎◌, List, [], Option, None, refl, slice_index_or, count_by, is_some}
 use Rattle.std.specs.Coded.{Coded, code_by, coded×, coded_ℕ, coded_list, coded_option}
 use Rattle.machine_model.specs.Images.{Program, program_code}
+use Rattle.machine_model.specs.CallReplies.{reply_code}
 use Rattle.machine_model.specs.declared.reply.Reply.{Reply}
 use Rattle.debugger.specs.Traces.{EntersNext, Traced, next_of, halt_of, reached}
 use Rattle.debugger.specs.declared.halt.Halt.{Halt}
@@ -14,9 +15,6 @@ pub record Session : Type 0 where
   pub count : ℕ
   pub breaks : List (Option ℕ)
   pub reran : ℕ
-
-abbrev pub reply_code : Coded Reply
-reply_code = code_by (ℕ × (ℕ × (List ℕ × Option Program))) (coded× coded_ℕ (coded× coded_ℕ (coded× (coded_list coded_ℕ) (coded_option program_code)))) (λ r. (r.a0, (r.at, (r.bytes, r.image)))) (λ p. record { a0 = p.0; at = p.1.0; bytes = p.1.1.0; image = p.1.1.1 }) (λ _. refl)
 
 -- by this code a proof tells sessions apart
 abbrev pub session_code : Coded Session

@@ -91,19 +91,19 @@ pub fn access_at(machine: &Machine) -> Option<Access>
 pub fn stored_by(reply: &Reply) -> Option<Access>
     ensures { result ≡ stores_of reply.now }
 {
-    if reply.image.is_some() {
+    if reply.has_image() {
         return Some(Access {
             at: 0,
             length: 1 << 32,
             kind: AccessKind::Store,
         });
     }
-    if reply.bytes.as_slice().is_empty() {
+    if reply.bytes().is_empty() {
         return None;
     }
     Some(Access {
-        at: reply.at,
-        length: reply.bytes.as_slice().len() as u64,
+        at: reply.at(),
+        length: reply.bytes().len() as u64,
         kind: AccessKind::Store,
     })
 }

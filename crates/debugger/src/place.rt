@@ -63,7 +63,7 @@ impl Place {
         let Some(reply) = replies.get(self.taken) else {
             return Some(Halt::EndOfTrace);
         };
-        if self.machine.space().takes(reply.at, reply.bytes.as_slice()) {
+        if self.machine.space().takes(reply.at(), reply.bytes()) {
             None
         } else {
             Some(Halt::EndOfTrace)
@@ -86,7 +86,7 @@ impl Place {
             return StretchEnd::Halted(halt);
         }
         let reply = &replies[self.taken];
-        if reply.image.is_some() {
+        if reply.has_image() {
             return StretchEnd::Entering;
         }
         self.machine.reply(reply);
@@ -103,7 +103,7 @@ impl Place {
         ensures same { OnErr result (self.new ≡ self.old) }
         ensures bound { self.old.taken ≤ length replies.now → self.new.taken ≤ length replies.now }
     {
-        if let Some(image) = &replies[self.taken].image {
+        if let Some(image) = replies[self.taken].image() {
             self.machine.enter(alloc, image)?;
             self.taken += 1;
         }

@@ -49,7 +49,7 @@ fn has_entered(core: &Core, pid: u32) -> bool {
 /// Whether a process executed a file, by what it was told.
 fn has_executed(core: &Core, pid: u32) -> bool {
     match core.trace(pid) {
-        Ok(replies) => replies.iter().any(|reply| reply.image.is_some()),
+        Ok(replies) => replies.iter().any(|reply| reply.has_image()),
         Err(_) => false,
     }
 }

@@ -69,7 +69,7 @@ fn memory_of(image: &Image) -> u64 {
 
 /// How many bytes of memory the program takes that a reply enters; 0 where it enters none.
 pub fn memory_entered(reply: &Reply) -> u64 {
-    match &reply.image {
+    match reply.image() {
         Some(image) => memory_of(image),
         None => 0,
     }
@@ -104,10 +104,10 @@ impl RepliedCalls {
                 machine.reg(Reg::new(11)),
                 machine.reg(Reg::new(12)),
             ],
-            reply: reply.a0,
+            reply: reply.a0(),
         };
         self.calls.push(call)?;
-        let stored = reply.bytes.as_slice().len() as u64;
+        let stored = reply.bytes().len() as u64;
         self.moved = self
             .moved
             .saturating_add(stored)

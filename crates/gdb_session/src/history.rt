@@ -37,7 +37,7 @@ const MIB: u64 = 1 << 20;
 /// The bytes that a reply counts as in the kernel.
 fn bytes_of(reply: &Reply) -> u64 {
     BYTES_OF_REPLY
-        .saturating_add(reply.bytes.as_slice().len() as u64)
+        .saturating_add(reply.bytes().len() as u64)
         .saturating_add(memory_entered(reply))
 }
 

@@ -7,6 +7,5 @@ mod replies;
 mod trace;
 mod withheld;
 
-pub use replies::zero_reply;
 pub use trace::Trace;
 pub use withheld::Withheld;

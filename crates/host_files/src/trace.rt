@@ -1,5 +1,4 @@
 //! `read_trace`: reads a trace, the replies that a debugged program's calls take.
-use byte_list::Bytes;
 use elf32::{ElfFault, parse};
 use faults::{Fault, Refusal, Why};
 use input_reading::{bytes_of, hexadecimal};
@@ -9,12 +8,7 @@ use std::alloc::{AllocError, Global};
 /// The reply of a number, with bytes for a place. None where `digits` are not those of bytes.
 fn plain_reply(alloc: Global, a0: u32, at: u32, digits: &str) -> Result<Option<Reply>, AllocError> {
     match bytes_of(alloc, digits)? {
-        Some(bytes) => Ok(Some(Reply {
-            a0,
-            at,
-            bytes,
-            image: None,
-        })),
+        Some(bytes) => Ok(Some(Reply::with_bytes(alloc, a0, at, bytes)?)),
         None => Ok(None),
     }
 }
@@ -25,12 +19,7 @@ fn image_reply(alloc: Global, digits: &str) -> Result<Option<Reply>, AllocError>
         return Ok(None);
     };
     match parse(alloc, file.as_slice()) {
-        Ok(image) => Ok(Some(Reply {
-            a0: 0,
-            at: 0,
-            bytes: Bytes::empty(alloc),
-            image: Some(image),
-        })),
+        Ok(image) => Ok(Some(Reply::with_image(alloc, image)?)),
         Err(ElfFault::OutOfMemory) => Err(AllocError),
         Err(_) => Ok(None),
     }

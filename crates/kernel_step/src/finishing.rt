@@ -209,7 +209,7 @@ fn finish(
     let (verdict, change) = plan.into_verdict_and_change();
     keep(&mut system.changes, change);
     let outcome = tell(task, verdict, next, before, mark);
-    (outcome, tell_child(system.alloc, child, mark))
+    (outcome, tell_child(child, mark))
 }
 
 /// Carries out an Enter that is prepared, of a process whose machine is here. Its event is noted and joins the history, as does what

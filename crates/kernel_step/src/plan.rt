@@ -15,9 +15,9 @@ use crate::system::System;
 use crate::task::Task;
 use calls::{CallPlan, PipeStep, Verdict, plan_call, plan_end, request_of};
 use commit_deps::Carrier;
-use held_output::{Trace, zero_reply};
+use held_output::Trace;
 use machine::Machine;
-use machine_model::{Cause, Stop};
+use machine_model::{Cause, Reply, Stop};
 use pipes::Pipe;
 use processes::{Descriptors, ProcTable};
 use std::alloc::{AllocError, Global};
@@ -118,7 +118,7 @@ fn forked_machine(alloc: Global, machine: &Machine) -> Result<Machine, AllocErro
     ensures { IfOk result (λ m. m ≡ replied machine.now zero_reply) }
 {
     let mut child = machine.try_clone(alloc)?;
-    child.reply(&zero_reply(alloc));
+    child.reply(&Reply::number(0));
     Ok(child)
 }
 
@@ -156,7 +156,7 @@ fn prepare_next(
     let Verdict::Replies(reply) = verdict else {
         return Ok(None);
     };
-    match &reply.image {
+    match reply.image() {
         Some(image) => {
             let next = machine.entered(alloc, image)?;
             Ok(Some(next))

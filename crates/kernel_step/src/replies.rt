@@ -14,11 +14,9 @@ use crate::task::Task;
 use crate::whereabouts::Whereabouts;
 use calls::Verdict;
 use commit_deps::Mark;
-use held_output::zero_reply;
 use kernel_model::Outcome;
 use machine::Machine;
 use machine_model::Reply;
-use std::alloc::Global;
 
 /// A machine goes on after the reply to its call. If the reply has an image, it goes on as `next`, which was entered from its
 /// state.
@@ -77,11 +75,11 @@ pub fn tell(
 }
 
 /// A process that was made, if one was, is told 0 by an event of this mark. Takes no memory.
-pub fn tell_child(alloc: Global, child: Option<Task>, mark: Mark) -> Option<Task>
+pub fn tell_child(child: Option<Task>, mark: Mark) -> Option<Task>
     requires { ChildMayBeTold child }
     ensures { (number : Option ℕ) (s : State) (parent : Withheld Item) → IsChild number s parent child → MakesTask number mark s parent result }
 {
     let mut child = child?;
-    child.trace.reply(zero_reply(alloc), mark);
+    child.trace.reply(Reply::number(0), mark);
     Some(child)
 }

@@ -190,12 +190,7 @@ fn replies_of(alloc: Global, replied: &[Replied]) -> Result<Vec<Reply>, AllocErr
     let mut replies = Vec::new(alloc);
     for &(a0, at, bytes) in replied {
         let bytes = Bytes::copy_of(alloc, bytes)?;
-        replies.push(Reply {
-            a0,
-            at,
-            bytes,
-            image: None,
-        })?;
+        replies.push(Reply::with_bytes(alloc, a0, at, bytes)?)?;
     }
     Ok(replies)
 }
@@ -245,12 +240,7 @@ fn entering(alloc: Global) -> Result<Debugger, DebugFault> {
     let image = Image::from_text(alloc, &[A0_IS_1, ECALL])?;
     let entered = Image::from_text(alloc, &[A0_IS_300, EBREAK])?;
     let mut replies = Vec::new(alloc);
-    replies.push(Reply {
-        a0: 0,
-        at: 0,
-        bytes: Bytes::empty(alloc),
-        image: Some(entered),
-    })?;
+    replies.push(Reply::with_image(alloc, entered)?)?;
     Debugger::new(alloc, image, replies)
 }
 

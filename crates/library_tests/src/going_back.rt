@@ -151,23 +151,18 @@ fn sees_what_instructions_access(rt: HostRuntime) -> Result<(), Fail> {
     Ok(())
 }
 
-fn reply(alloc: Global, at: u32, bytes: &[u8], image: Option<Image>) -> Result<Reply, AllocError> {
-    Ok(Reply {
-        a0: 0,
-        at,
-        bytes: Bytes::copy_of(alloc, bytes)?,
-        image,
-    })
+fn reply(alloc: Global, at: u32, bytes: &[u8]) -> Result<Reply, AllocError> {
+    Reply::with_bytes(alloc, 0, at, Bytes::copy_of(alloc, bytes)?)
 }
 
 /// Replies with three bytes, with none, with an image, and with a byte for the text, which may not be written.
 fn replies_of_all_kinds(alloc: Global) -> Result<Vec<Reply>, AllocError> {
     let entered = Image::from_text(alloc, &[ECALL])?;
     let mut replies = Vec::new(alloc);
-    replies.push(reply(alloc, STACK, &[1, 2, 3], None)?)?;
-    replies.push(reply(alloc, 0, &[], None)?)?;
-    replies.push(reply(alloc, 0, &[], Some(entered))?)?;
-    replies.push(reply(alloc, ENTRY, &[1], None)?)?;
+    replies.push(reply(alloc, STACK, &[1, 2, 3])?)?;
+    replies.push(reply(alloc, 0, &[])?)?;
+    replies.push(Reply::with_image(alloc, entered)?)?;
+    replies.push(reply(alloc, ENTRY, &[1])?)?;
     Ok(replies)
 }
 

@@ -142,7 +142,7 @@ fn assert_replied(rt: &impl Abort, machine: &mut Machine, reply: &Reply)
 {
     assert!(rt; matches!(machine.stopped(), Some(Stop::Call)));
     assert!(rt; machine.count() == 0);
-    assert!(rt; machine.space().writable(reply.at, 3));
+    assert!(rt; machine.space().writable(reply.at(), 3));
     machine.reply(reply);
     let replied = (machine.reg(Reg::new(10)), machine.pc(), machine.count());
     assert_row(rt, "a0, pc and count", replied, (7, 0x0001_0004, 1));
@@ -153,12 +153,8 @@ fn assert_replied(rt: &impl Abort, machine: &mut Machine, reply: &Reply)
 fn replies_to_a_call(rt: HostRuntime) -> Result<(), AllocError> {
     let mut machine = machine_of(rt.alloc(), &[ECALL, EBREAK])?;
     let copy = machine.try_clone(rt.alloc())?;
-    let reply = Reply {
-        a0: 7,
-        at: 0x7fff_fff0,
-        bytes: Bytes::copy_of(rt.alloc(), &[1, 2, 3])?,
-        image: None,
-    };
+    let bytes = Bytes::copy_of(rt.alloc(), &[1, 2, 3])?;
+    let reply = Reply::with_bytes(rt.alloc(), 7, 0x7fff_fff0, bytes)?;
     let copied = reply.try_clone(rt.alloc())?;
     assert_replied(&rt, &mut machine, &copied);
     let kept = (copy.stopped(), copy.space().byte(0x7fff_fff0));

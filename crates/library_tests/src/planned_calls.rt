@@ -176,7 +176,7 @@ fn plan_of(alloc: Global, tapes: &TapeTable, request: Request) -> Result<CallPla
 /// What a plan tells its caller: a reply's number, or as an error the status with which it ends, if it does.
 fn told(plan: &CallPlan) -> Result<u32, Option<u32>> {
     match &plan.verdict {
-        Verdict::Replies(reply) => Ok(reply.a0),
+        Verdict::Replies(reply) => Ok(reply.a0()),
         Verdict::Ends(status) => Err(Some(*status)),
         Verdict::Waits => Err(None),
     }
@@ -297,7 +297,7 @@ fn plan_of_exec(alloc: Global, bytes: &[u8], name: &[u8]) -> Result<CallPlan, Al
 /// Where the program begins with which a plan replies, if it does.
 fn entry_told(plan: &CallPlan) -> Option<u32> {
     match &plan.verdict {
-        Verdict::Replies(reply) => match &reply.image {
+        Verdict::Replies(reply) => match reply.image() {
             Some(image) => Some(image.entry()),
             None => None,
         },

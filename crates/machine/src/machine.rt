@@ -139,10 +139,10 @@ impl Machine {
         place(
             &mut self.architectural.space,
             &mut self.own,
-            reply.at,
-            reply.bytes.as_slice(),
+            reply.at(),
+            reply.bytes(),
         );
-        self.architectural.regs.x[10] = reply.a0;
+        self.architectural.regs.x[10] = reply.a0();
         self.architectural.regs.pc = self.architectural.regs.pc.wrapping_add(4);
         self.count += 1;
     }

@@ -5,6 +5,8 @@ pub mod States
 pub mod Stopping
 pub mod Images
 pub mod First
+pub mod CallReplies
+pub mod HeldReplies
 pub mod Replies
 pub mod Steps
 pub mod Numbers

@@ -35,15 +35,10 @@ fn overwrite(alloc: Global, machine: &mut Machine, seed: u32) -> Result<(), Erro
     let mut numbers = Numbers::new(seed.wrapping_add(done) | 1);
     let size = 1 + numbers.next() % 12;
     let at = FIRST + numbers.next() % (SIZE - 12);
-    let reply = Reply {
-        a0: size,
-        at,
-        bytes: bytes(alloc, &mut numbers, size)?,
-        image: None,
-    };
+    let reply = Reply::with_bytes(alloc, size, at, bytes(alloc, &mut numbers, size)?)?;
     if machine.stopped() != Some(Stop::Call)
         || machine.count() > 1 << 32
-        || !machine.space().takes(at, reply.bytes.as_slice())
+        || !machine.space().takes(at, reply.bytes())
     {
         bail!("a call that cannot be answered");
     }

@@ -54,13 +54,13 @@ fn print_image<O: Write>(alloc: Global, image: &Image, out: &mut O) -> io::Resul
 
 /// Prints a reply: a0, and its bytes after the place where they go, or `-` for none; or the image that it brings.
 pub fn print_reply<O: Write>(alloc: Global, reply: &Reply, out: &mut O) -> io::Result<()> {
-    if let Some(image) = &reply.image {
+    if let Some(image) = reply.image() {
         return print_image(alloc, image, out);
     }
-    let bytes = bytes_text(alloc, reply.bytes.as_slice())?;
-    print_word(reply.a0, out)?;
-    if !reply.bytes.as_slice().is_empty() {
-        print_word(reply.at, out)?;
+    let bytes = bytes_text(alloc, reply.bytes())?;
+    print_word(reply.a0(), out)?;
+    if !reply.bytes().is_empty() {
+        print_word(reply.at(), out)?;
     }
     writeln!(out, "{bytes}")
 }

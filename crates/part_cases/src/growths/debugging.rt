@@ -1,7 +1,6 @@
 //! Calls of a debugger that goes over kept states, back, and over a call that enters another program.
 use crate::growths::images::{LOOP, assembled};
 use anyhow::{Error, ensure};
-use byte_list::Bytes;
 use debugger::{DebugFault, Debugger, Stepped, Stopped};
 use formats::Reg;
 use machine::Reply;
@@ -150,12 +149,7 @@ fn check_calls(debugger: &mut Debugger, calls: &[Call]) -> Result<(), Error> {
 fn replies_of(alloc: Global, enters: bool) -> Result<Vec<Reply>, Error> {
     let mut replies = Vec::new(alloc);
     if enters {
-        replies.push(Reply {
-            a0: 0,
-            at: 0,
-            bytes: Bytes::empty(alloc),
-            image: Some(assembled(alloc, LOOP)?),
-        })?;
+        replies.push(Reply::with_image(alloc, assembled(alloc, LOOP)?)?)?;
     }
     Ok(replies)
 }
