@@ -91,6 +91,10 @@ PARTS = {
         ("gcc-12-source", "gcc-riscv64-unknown-elf", "picolibc-riscv64-unknown-elf", "qemu-user"), 20,
     ),
     "orders": Part("random programs, by explore and by all orders", "python3 tools/random-orders.py {count} {seed} {jobs}", (), 20),
+    "crash-orders": Part(
+        "random programs, by crashes of all orders by each rule, and of each order", "python3 tools/random-crash-orders.py {count} {seed} {jobs}",
+        (), 5,
+    ),
     "many-runs": Part("each example again and again, by 1 to 16 workers", "tools/many-runs.sh {count}", (), 16),
     "killed-runs": Part("runs that are killed, and the disk after each", "tools/killed-runs.sh {count}", (), 20),
     "killed-durable-runs": Part(

@@ -5,7 +5,7 @@
 
 A run (1,000 where no number is given) is a tape of steps.c: it makes, writes, empties, renames and removes files, and syncs. For each rule
 of commits, ordered, delayed and posix, the lists of files that `bench crashes` prints are those of the enumeration below, which shares no
-code with it: also with at most 0, 1 and 2 cells apart.
+code with it: of each window, with as many cells apart, and also with at most 0, 1 and 2.
 
 BENCH names the program, or else it is ./bench of this repository. At the first difference the tape is printed, and the status is 1."""
 import hashlib
@@ -150,8 +150,8 @@ def contents_of(model, states, changes, number, common, most):
 
 
 def lists_of(model, base, changes, most):
-    """Returns the lists of files that a crash may leave, with at most so many cells apart."""
-    states, lists = states_of(base, changes), set()
+    """Returns the lists of files that a crash may leave, with at most so many cells apart, and how many are of each."""
+    states, lists = states_of(base, changes), {}
     named = {i + 1 for i, change in enumerate(changes) if change[0] in ("create", "remove", "rename")}
     for common in range(len(states)):
         here = {at for at in named if at <= common}
@@ -165,8 +165,9 @@ def lists_of(model, base, changes, most):
                 held = contents_of(model, states, changes, number, common, most - cost)
                 options.append([(name, content, apart) for content, apart in held.items()])
             for chosen in product(*options):
-                if cost + sum(apart for _name, _content, apart in chosen) <= most:
-                    lists.add(tuple((name, content) for name, content, _apart in chosen))
+                files, apart = tuple((name, content) for name, content, _apart in chosen), cost + sum(apart for *_file, apart in chosen)
+                if apart <= most:
+                    lists[files] = min(apart, lists.get(files, apart))
     return lists
 
 
@@ -240,14 +241,34 @@ def printed_of(files):
     return " ".join(sorted(f"{name}:{len(content)}:{hashlib.sha256(content).hexdigest()[:16]}" for name, content in files)) or "-"
 
 
+def wanted_of(model, windows, most):
+    """Returns, of each window with lists that no window before it has, those lists as bench prints them, and how many cells of each are apart."""
+    known, wanted = set(), []
+    for base, changes in windows:
+        lists = {}
+        for files, apart in lists_of(model, base, changes, most).items():
+            text = printed_of(files)
+            lists[text] = min(apart, lists.get(text, apart))
+        new = {text: apart for text, apart in lists.items() if text not in known}
+        known |= lists.keys()
+        if new:
+            wanted.append(new)
+    return wanted
+
+
 def lists_by_bench(tape, model, most):
-    """Returns the lists that bench prints."""
+    """Returns the lists that bench prints, of each window apart, and how many cells of each are apart."""
     words = [BENCH, "crashes", "--model", model, "--apart", str(most), "--tape", "-", IMAGE]
     done = subprocess.run(words, input=tape, capture_output=True, check=False)
     if done.returncode != 0:
         sys.exit(f"{' '.join(words)}: status {done.returncode}: {done.stderr.decode()}\n{tape.decode()}")
-    lines = [line.split(" files ", 1)[1] for line in done.stdout.decode().splitlines() if " files " in line]
-    return {" ".join(sorted(line.split())) for line in lines}
+    windows = {}
+    for line in done.stdout.decode().splitlines():
+        if " files " in line:
+            where, files = line.split(" files ", 1)
+            event, apart = where.split()[3:6:2]
+            windows.setdefault(event, {})[" ".join(sorted(files.split()))] = int(apart)
+    return list(windows.values())
 
 
 def main():
@@ -259,14 +280,10 @@ def main():
         tape = "".join(f"{line}\n" for line in steps.lines).encode()
         model = ("ordered", "delayed", "posix")[run % 3]
         for most in (0, 1, 2, 99):
-            wanted = set()
-            for base, changes in steps.windows:
-                wanted |= {printed_of(files) for files in lists_of(model, base, changes, most)}
-            found = lists_by_bench(tape, model, most)
-            lists += len(found)
+            wanted, found = wanted_of(model, steps.windows, most), lists_by_bench(tape, model, most)
+            lists += sum(len(window) for window in found)
             if found != wanted:
-                print(f"{model}, at most {most} apart, seed {seed} run {run}\n{tape.decode()}")
-                print("only bench:", sorted(found - wanted), "\nonly here:", sorted(wanted - found))
+                print(f"{model}, at most {most} apart, seed {seed} run {run}\n{tape.decode()}\nby bench: {found}\nhere: {wanted}")
                 return 1
     print(f"{runs} runs: {lists} lists")
     return 0

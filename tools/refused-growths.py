@@ -142,6 +142,7 @@ COMMANDS = [
     ("crashes by a rule", 0, "crashes --model posix --jobs 1 --recover first.s first-run.script", b""),
     ("crashes of all orders", 0, "crashes --all-orders --jobs 1 --nested 0 --recover first.s init", b""),
     ("crashes of all orders that are cut", 8, "crashes --all-orders --jobs 1 --most-states 2 --recover first.s init", b""),
+    ("crashes of all orders by a rule", 0, "crashes --all-orders --model posix --jobs 1 --nested 0 --recover first.s init", b""),
     ("crashes of an order that ends badly", 126, "crashes --all-orders --jobs 1 --nested 0 --recover first.s stuck.s", b""),
     ("a recovery that fails", 7, "crashes --jobs 1 --save . --recover wild.s first-run.script", b""),
     ("crashes expected", 7, "crashes --expect allowed.files first-run.script", b""),
