@@ -1,10 +1,10 @@
 //! Pages of runs.
-use crate::script_files::{of_script, script_in};
 use exec_files::{LoadedProgram, Names, Places};
 use exec_reports::Family;
 use faults::{Fault, Refusal};
 use host_files::{source_lines, source_text};
 use run_page::{PagedScript, write_json, write_page};
+use script_files::{of_script, script_in};
 use scripts::Setup;
 use std::io::Write;
 use std::rt::Files;

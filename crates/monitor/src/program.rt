@@ -1,19 +1,14 @@
 //! `bench`, the whole program: reads the command line, does its task, and gives the exit status.
-use crate::crash_files::try_crashes;
-use crate::debugging::{debug_file, debug_live};
-use crate::disks::use_disk;
-use crate::executing::{REFUSED, execute};
-use crate::exploring::explore_programs;
-use crate::gdb::answer_gdb;
-use crate::logs::{LogPaths, diff_files};
 use crate::page_files::page_file;
-use crate::running::run_images;
-use crate::script_files::{picture_file, replay_cone_file, replay_file, replay_input};
 use clap::Error;
 use clap::error::ErrorKind;
 use command_line::{Arguments, Task, parse};
+use debug_sessions::{answer_gdb, debug_file, debug_live};
 use faults::{Fault, write_line};
 use host_files::{assemble_file, check_file, image_file, list_file, symbols_file};
+use run_commands::{LogPaths, REFUSED, diff_files, execute, run_images, use_disk};
+use script_files::{picture_file, replay_cone_file, replay_file, replay_input};
+use search_commands::{explore_programs, try_crashes};
 use std::fs::File;
 use std::io;
 use std::io::{BufWriter, Read, Write};

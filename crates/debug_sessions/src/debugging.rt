@@ -1,6 +1,5 @@
 //! The command `debug`: an image is debugged with a trace, or with `--live` a process, whose calls a kernel answers.
 use crate::fault::of_session;
-use crate::script_files::of_script;
 use command_line::LiveOptions;
 use debug_commands::debug;
 use faults::{Fault, at_path};
@@ -9,6 +8,7 @@ use kernel::{Core, Event, Refused};
 use machine_model::Image;
 use recorder::Recorder;
 use run_files::boot_live;
+use script_files::of_script;
 use scripts::{Script, Setup, is_script};
 use std::alloc::Global;
 use std::fs;

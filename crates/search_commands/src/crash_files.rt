@@ -1,7 +1,6 @@
 //! The command `crashes`: crashes of a script, or of programs.
 use crate::crash_orders::{OrdersTested, recover_orders};
 use crate::crash_subject::{CrashSubject, program_in, subject_in};
-use crate::script_files::of_files;
 use command_line::{CrashOptions, ModelName, OrderBounds};
 use crash_recoveries::{
     Course, CrashModel, Effort, Failure, Part, Recovery, Rule, RunEnd, Subject, Tested, Trial,
@@ -12,6 +11,7 @@ use exec_runs::Ending;
 use faults::{Fault, write_line};
 use host_files::text_in;
 use kernel::Core;
+use script_files::of_files;
 use scripts::Setup;
 use std::fmt;
 use std::io::{Read, Write};

@@ -1,9 +1,9 @@
 //! All orders of the calls of programs in files of the host.
-use crate::script_files::{of_files, of_script};
 use command_line::{ExploreOptions, OrderBounds};
 use explored_runs::{Limits, MergeFault, Part, Wanted, explore_orders, merge_parts};
 use faults::{Fault, at_path, write_line};
 use host_files::{text_in, text_of_file};
+use script_files::{of_files, of_script};
 use scripts::{Script, Setup};
 use std::alloc::{AllocError, Global};
 use std::fs;

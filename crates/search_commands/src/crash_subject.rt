@@ -1,5 +1,4 @@
 //! What `crashes` runs: a script, or programs.
-use crate::script_files::of_script;
 use command_line::CrashOptions;
 use crash_recoveries::Course;
 use elf32::MOST_LINKED_BYTES;
@@ -9,6 +8,7 @@ use faults::{Fault, at_path};
 use host_files::text_of_file;
 use input_reading::bytes_in;
 use run_files::tapes_in;
+use script_files::of_script;
 use scripts::{Script, Setup, is_script};
 use std::alloc::Global;
 use std::fs;

@@ -1,4 +1,8 @@
-//! The commands that read a script: `replay` and `picture`. Each script is read whole before anything runs.
+//! Scripts in files of the host, and the commands `replay` and `picture`. Each script is read whole before anything runs.
+//!
+//! Read `script_in` first. Only safety is proved.
+#![tactic(auto)]
+
 use faults::{Fault, Role};
 use host_files::text_in;
 use pictured_runs::picture;

@@ -1,0 +1,17 @@
+//! Makes the program's `Fault` of the fault of a session with the debugger.
+use faults::{Fault, Refusal, Why};
+use timeline::SessionFault;
+
+/// The program's fault where a session of `debug` or `gdb` ends early.
+pub fn of_session(fault: SessionFault) -> Fault {
+    match fault {
+        SessionFault::OutOfMemory => Fault::OutOfMemory,
+        // (the system's reason is not known)
+        SessionFault::InputOutput => Fault::new(
+            Refusal::InputOutput,
+            Some(Why::Text(
+                "standard input could not be read as text, or standard output not be written",
+            )),
+        ),
+    }
+}
