@@ -1,10 +1,9 @@
 //! Why a run ended.
 use crate::family::Family;
 use crate::lines::print_processes;
-use exec_runs::Ending;
+use exec_runs::{Ending, status_of};
 use faults::{Fault, write_line};
 use kernel::{Core, Standing};
-use run_files::status_of;
 use std::io::Write;
 
 /// The exit status where a limit of instructions is reached.

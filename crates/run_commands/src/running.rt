@@ -2,10 +2,11 @@
 use crate::fault::of_run;
 use command_line::{RunNumbers, RunOptions};
 use durable_disk::HostFile;
+use exec_runs::status_of;
 use executor::{Run, Settings};
 use faults::{Fault, Refusal};
 use kernel::Core;
-use run_files::{boot, keep_disk, of_disk, print_processes, status_of};
+use run_files::{boot, keep_disk, of_disk, print_processes};
 use std::fs::File;
 use std::io::{Read, Write};
 use std::rt::Files;

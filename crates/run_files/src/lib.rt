@@ -1,13 +1,11 @@
-//! The beginning and the end of `bench run`: its core from files of the host, the disk that it leaves, the lines about files and
-//! processes, and the exit status by a process. Read `boot` first. Only safety is proved.
+//! The beginning and the end of `bench run`: its core from files of the host, the disk that it leaves, and the lines about files and
+//! processes. Read `boot` first. Only safety is proved.
 #![tactic(auto)]
 
-mod exit_status;
 mod file_lines;
 mod process_lines;
 mod setup;
 
-pub use exit_status::status_of;
 pub use file_lines::list_files;
 pub use process_lines::print_processes;
 pub use setup::{Setup, boot, boot_live, boot_on, keep_disk, of_disk, tapes_in};

@@ -1,4 +1,4 @@
-//! `status_of`: the exit status of `bench run --status P`, by how process P ended.
+//! `status_of`: the exit status of a run by how a process of it ended.
 ghost use Rattle.std.specs.Prelude.{◌≡◌, ◌+◌, ◌<◌, ◌≤◌, ℕ};
 
 use kernel::Core;
