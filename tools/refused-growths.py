@@ -145,6 +145,7 @@ COMMANDS = [
     ("crashes of all orders by a rule", 0, "crashes --all-orders --model posix --jobs 1 --nested 0 --recover first.s init", b""),
     ("crashes of an order that ends badly", 126, "crashes --all-orders --jobs 1 --nested 0 --recover first.s stuck.s", b""),
     ("a recovery that fails", 7, "crashes --jobs 1 --save . --recover wild.s first-run.script", b""),
+    ("a recovery that fails by a rule", 7, "crashes --model posix --jobs 1 --save . --recover wild.s first-run.script", b""),
     ("crashes expected", 7, "crashes --expect allowed.files first-run.script", b""),
     ("debug", 0, "debug first --trace trace", COMMANDS_OF_DEBUG),
     ("debug far", 0, "debug primes", LONG_DEBUG),
