@@ -21,6 +21,7 @@ import time
 sys.dont_write_bytecode = True
 
 from crate_copies import TOP, copy_crates, crates_below
+from lanes import lanes
 
 PROGRAM = "bench"
 INTERRUPTS = (signal.SIGINT, signal.SIGTERM, signal.SIGHUP)
@@ -51,11 +52,11 @@ class Failed(Exception):
 
 
 def jobs():
-    """Returns how many processors the proofs may use, in the words of the environment; none where `rt` decides."""
-    asked = os.environ.get("BENCH_JOBS")
-    if asked and not (asked.isdigit() and int(asked) >= 1):
+    """Returns how many processors the proofs may use, in the words of the environment."""
+    asked = os.environ.get("BENCH_JOBS") or str(lanes())
+    if not (asked.isdigit() and int(asked) >= 1):
         raise Failed(f"BENCH_JOBS is a number from 1 on, and no {asked}")
-    return {"RT_JOBS": asked} if asked else {}
+    return {"RT_JOBS": asked}
 
 
 def store():

@@ -27,6 +27,7 @@ from collections import Counter
 sys.dont_write_bytecode = True
 
 from crate_copies import GATE, MUTANTS, TOP, copy_crates, crates_below, lines_of_crates
+from lanes import lanes
 
 INTERRUPTS = (signal.SIGINT, signal.SIGTERM, signal.SIGHUP)
 # What rt says of an edit, and by which words it begins.
@@ -153,7 +154,7 @@ def lines_told(lines):
 def try_edits(room, edits, jobs):
     """Runs rt in the copy. Returns its status, how often it said what of each crate, and the checks that it made."""
     # What it leaves where it is interrupted is then in the folder that is removed.
-    where = {**os.environ, "TMPDIR": f"{room}/tmp", **({"RT_JOBS": str(jobs)} if jobs else {})}
+    where = {**os.environ, "TMPDIR": f"{room}/tmp", "RT_JOBS": str(jobs or lanes())}
     run = subprocess.Popen(
         ["rt", "ci"], cwd=f"{room}/copy", env=where, stdin=subprocess.DEVNULL, stdout=subprocess.PIPE, stderr=subprocess.STDOUT, text=True,
         errors="replace", start_new_session=True,
