@@ -1,3 +1,4 @@
 -- The definitions.
 pub mod Effects
 pub mod Presences
+pub mod Rules

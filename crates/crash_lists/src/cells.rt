@@ -1,26 +1,16 @@
-//! `DiskCells`: as at which moments a disk has its cells.
-ghost use Rattle.std.specs.Prelude.{◌≡◌, ◌≤◌};
-
-use crate::contents::{ApartCell, Content};
-use crate::presence::Part;
-use crate::window::CELL;
+//! `DiskCells`: which cells of a disk are not as at a common moment.
+use crate::contents::Content;
 use std::alloc::{AllocError, Global};
 
 /// A file of a disk.
 #[derive(Clone, Copy)]
 pub struct DiskFile {
     pub number: u64,
-    pub length: usize,
+    /// How many of its cells are apart.
+    pub apart: u32,
 }
 
-/// A cell that is not as at the common moment, and the place of its file.
-#[derive(Clone, Copy)]
-pub struct CellOfFile {
-    pub place: usize,
-    pub cell: ApartCell,
-}
-
-/// As at which moments a disk has its cells: as at a common one, but for those that are apart.
+/// Which cells of a disk are not as at a common moment.
 #[derive(Drop)]
 pub struct DiskCells {
     pub common: usize,
@@ -28,7 +18,6 @@ pub struct DiskCells {
     pub names: Vec<usize>,
     /// The files, by their places.
     pub files: Vec<DiskFile>,
-    pub apart: Vec<CellOfFile>,
 }
 
 impl DiskCells {
@@ -38,7 +27,6 @@ impl DiskCells {
             common,
             names: Vec::from_slice(alloc, names)?,
             files: Vec::new(alloc),
-            apart: Vec::new(alloc),
         })
     }
 
@@ -49,21 +37,15 @@ impl DiskCells {
         number: u64,
         content: &Content,
     ) -> Result<DiskCells, AllocError> {
-        let place = self.files.len();
         let mut files = Vec::from_slice(alloc, self.files.as_slice())?;
         files.push(DiskFile {
             number,
-            length: content.bytes.len(),
+            apart: content.apart,
         })?;
-        let mut apart = Vec::from_slice(alloc, self.apart.as_slice())?;
-        for cell in &content.apart {
-            apart.push(CellOfFile { place, cell: *cell })?;
-        }
         Ok(DiskCells {
             common: self.common,
             names: Vec::from_slice(alloc, self.names.as_slice())?,
             files,
-            apart,
         })
     }
 
@@ -84,42 +66,6 @@ impl DiskCells {
             change.saturating_add(1)
         } else {
             change
-        }
-    }
-
-    /// The moment of the length of the file at a place.
-    fn moment_of_length(&self, place: usize) -> usize {
-        for it in &self.apart {
-            if let ApartCell::Length { moment } = it.cell
-                && it.place == place
-            {
-                return moment;
-            }
-        }
-        self.common
-    }
-
-    /// The moment of 512 bytes of the file at a place.
-    fn moment_of_bytes(&self, place: usize, number: usize) -> usize {
-        for it in &self.apart {
-            if let ApartCell::Bytes { cell, moment } = it.cell
-                && it.place == place
-                && cell == number
-            {
-                return moment;
-            }
-        }
-        self.common
-    }
-
-    /// The moment of a part of the file at a place. Bytes past its end are as its length is.
-    pub fn moment_of(&self, place: usize, part: Part) -> usize {
-        let length = self.files.get(place).map_or(0, |file| file.length);
-        match part {
-            Part::Bytes { first, .. } if first < length => {
-                self.moment_of_bytes(place, first / CELL)
-            }
-            _ => self.moment_of_length(place),
         }
     }
 }

@@ -1,5 +1,6 @@
 //! As at which moments the cells of a file may be. The common moment does not matter, so it is found once for all.
-ghost use Rattle.std.specs.Prelude.{◌≡◌, nat_lt, true, false};
+ghost use Rattle.std.specs.Prelude.{◌≡◌, ◌+◌, ◌<◌, ◌≤◌, ℕ, nat_lt, true, false, vec_len};
+ghost use Rattle.crash_lists.specs.Rules.{AreBy, AreOrdered, AreWhole, IsLate, IsWrittenSince, LengthMayBe, MayBe};
 
 use crate::model::CrashModel;
 use crate::window::{CELL, Window};
@@ -16,10 +17,10 @@ pub struct Choices {
 
 /// A file of a window.
 #[derive(Clone, Copy)]
-struct FileIn<'a> {
-    window: &'a Window,
-    model: CrashModel,
-    number: u64,
+pub struct FileIn<'a> {
+    pub window: &'a Window,
+    pub model: CrashModel,
+    pub number: u64,
 }
 
 /// The bytes of a cell; zeros past the end.
@@ -67,35 +68,104 @@ fn is_whole(long: bool, there: bool, is_emptied: bool, is_written: bool) -> bool
 }
 
 impl FileIn<'_> {
-    /// Whether a write of a cell comes after a change and counts at a moment.
-    fn is_written_since(&self, change: usize, moment: usize, cell: usize) -> bool {
-        (change.saturating_add(1)..moment).any(|later| self
-            .window
-            .is_lengthened(self.number, later, cell))
+    /// Whether a change after another one makes the file longer by a cell, and counts at a moment.
+    fn is_written_since(&self, change: usize, moment: usize, cell: usize) -> bool
+        requires { moment < vec_len self.now.window.now.moments }
+        ensures { result ≡ true → IsWrittenSince self.now.window.now.moments.items change moment self.now.number cell }
+    {
+        for later in change.saturating_add(1)..moment {
+            if self.window.is_lengthened(self.number, later, cell) {
+                return true;
+            }
+        }
+        false
     }
 
-    /// Whether a cell may be as at a moment, where the length is as at another: by what one change asks of both.
-    fn allows(&self, change: usize, size: usize, moment: usize, cell: usize) -> bool {
-        let (long, there) = (counts_at(change, size), counts_at(change, moment));
+    /// Whether a cell may be as at a moment, where the length is as at another, by what ordered and delayed ask of one change.
+    fn keeps_order(&self, change: usize, size: usize, moment: usize, cell: usize) -> bool
+        requires { change + 1 < vec_len self.now.window.now.moments }
+        ensures { result ≡ true → AreOrdered self.now.window.now.moments.items change self.now.number size moment cell }
+    {
+        is_ordered(
+            counts_at(change, size),
+            counts_at(change, moment),
+            self.window.is_emptied(self.number, change),
+            self.window.is_lengthened(self.number, change, cell),
+        )
+    }
+
+    /// The same by what posix asks of it.
+    fn keeps_whole(&self, change: usize, size: usize, moment: usize, cell: usize) -> bool
+        requires change { change + 1 < vec_len self.now.window.now.moments }
+        requires moment { moment < vec_len self.now.window.now.moments }
+        ensures { result ≡ true → AreWhole self.now.window.now.moments.items change self.now.number size moment cell }
+    {
         let is_emptied = self.window.is_emptied(self.number, change);
-        if self.model == CrashModel::Posix {
-            let is_written = is_emptied && self.is_written_since(change, moment, cell);
-            return is_whole(long, there, is_emptied, is_written);
+        let is_written = is_emptied && self.is_written_since(change, moment, cell);
+        is_whole(
+            counts_at(change, size),
+            counts_at(change, moment),
+            is_emptied,
+            is_written,
+        )
+    }
+
+    /// The same by what the rule asks of it.
+    fn allows(&self, change: usize, size: usize, moment: usize, cell: usize) -> bool
+        requires change { change + 1 < vec_len self.now.window.now.moments }
+        requires moment { moment < vec_len self.now.window.now.moments }
+        ensures { result ≡ true → AreBy self.now.model self.now.window.now.moments.items change self.now.number size moment cell }
+    {
+        match self.model {
+            CrashModel::Ordered | CrashModel::Delayed => {
+                self.keeps_order(change, size, moment, cell)
+            }
+            CrashModel::Posix => self.keeps_whole(change, size, moment, cell),
         }
-        let is_lengthened = long && self.window.is_lengthened(self.number, change, cell);
-        is_ordered(long, there, is_emptied, is_lengthened)
     }
 
     /// Whether a cell may be as at a moment, where the length is as at another.
-    fn may_be(&self, size: usize, moment: usize, cell: usize) -> bool {
-        (0..self.window.changes()).all(|change| self.allows(change, size, moment, cell))
+    pub fn may_be(&self, size: usize, moment: usize, cell: usize) -> bool
+        requires { moment < vec_len self.now.window.now.moments }
+        ensures { result ≡ true → MayBe self.now.model self.now.window.now.moments.items self.now.number size moment cell }
+    {
+        for change in 0..self.window.changes() {
+            if !self.allows(change, size, moment, cell) {
+                return false;
+            }
+        }
+        true
+    }
+
+    /// By delayed, the first moment as at which the length may be, where names are as at the common one.
+    fn first_late(&self, common: usize) -> usize
+        ensures { (size : ℕ) → result ≤ size → size ≤ common → IsLate self.now.window.now.moments.items self.now.number common size }
+    {
+        let mut first = self.window.made_at(self.number).min(common);
+        for change in 0..common.min(self.window.changes()) {
+            if self.window.is_emptied(self.number, change) {
+                first = first.max(change.saturating_add(1));
+            }
+        }
+        first
+    }
+
+    /// The first and the last moment as at which the length may be, where names are as at the common one.
+    pub fn sizes(&self, common: usize) -> (usize, usize)
+        ensures { (size : ℕ) → result.0 ≤ size → size ≤ result.1 → LengthMayBe self.now.model self.now.window.now.moments.items self.now.number common size }
+    {
+        match self.model {
+            CrashModel::Ordered => (common, common),
+            CrashModel::Delayed => (self.first_late(common), common),
+            CrashModel::Posix => (0, self.window.changes()),
+        }
     }
 
     /// The moments as at which a cell may be, where the length is as at one: of those with the same bytes the first.
     fn moments(&self, alloc: Global, size: usize, cell: usize) -> Result<Vec<usize>, AllocError> {
         let mut moments = Vec::new(alloc);
         let mut known: HashSet<Vec<u8>> = HashSet::new(alloc);
-        for moment in 0..=self.window.changes() {
+        for moment in 0..self.window.moments() {
             if self.may_be(size, moment, cell) {
                 let bytes = self.window.bytes_at(self.number, moment);
                 if known.insert(cell_bytes(alloc, bytes, cell)?)? {
@@ -119,22 +189,15 @@ impl FileIn<'_> {
 
 impl Choices {
     /// Those of the file of a number.
-    pub fn of(
-        alloc: Global,
-        window: &Window,
-        model: CrashModel,
-        number: u64,
-    ) -> Result<Choices, AllocError> {
-        let file = FileIn {
-            window,
-            model,
-            number,
-        };
+    pub fn of(alloc: Global, file: FileIn<'_>) -> Result<Choices, AllocError> {
         let mut sizes = Vec::new(alloc);
-        for size in 0..=window.changes() {
+        for size in 0..file.window.moments() {
             sizes.push(file.cells(alloc, size)?)?;
         }
-        Ok(Choices { number, sizes })
+        Ok(Choices {
+            number: file.number,
+            sizes,
+        })
     }
 
     /// The moments of each cell, where the length is as at one.

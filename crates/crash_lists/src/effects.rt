@@ -33,7 +33,7 @@ fn byte_at(bytes: &[u8], place: usize) -> u8
 }
 
 /// The first place, from one on and up to another, at which bytes differ.
-fn first_change(before: &[u8], after: &[u8], begin: usize, end: usize) -> Option<usize>
+pub fn first_change(before: &[u8], after: &[u8], begin: usize, end: usize) -> Option<usize>
     ensures none { IfNone result (AreSame before.now after.now begin end) }
     ensures some { IfSome result (IsFirstChange before.now after.now begin end) }
 {

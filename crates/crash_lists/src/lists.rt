@@ -1,10 +1,15 @@
 //! `Enumeration`: which files a crash may leave.
-use crate::cells::{CellOfFile, DiskCells};
-use crate::choices::Choices;
-use crate::contents::{ApartCell, Content, FileAt};
+ghost use Rattle.std.specs.Prelude.{◌≡◌, IfOk, IfSome, Some, slice_get};
+ghost use Rattle.disk_model.specs.declared.change.NamedFile.{NamedFile};
+ghost use Rattle.crash_lists.specs.Rules.{AreMomentsOf};
+
+use crate::cells::DiskCells;
+use crate::choices::{Choices, FileIn};
+use crate::contents::{Content, FileAt};
 use crate::directories::{Directory, directories_near};
 use crate::effects::{Effect, FileEffect, effects_of};
 use crate::model::CrashModel;
+use crate::moments::{FileMoments, FileNear};
 use crate::presence::{ChangeOnDisk, Part, PartOnDisk};
 use crate::window::{CELL, Window};
 use byte_list::Bytes;
@@ -21,11 +26,6 @@ pub struct Listed {
     cells: DiskCells,
 }
 
-/// Appends what is apart, after what stands there already.
-fn push_apart(told: &mut String, is_first: bool) -> Result<(), AllocError> {
-    told.push_str(if is_first { ", but for " } else { "; " })
-}
-
 /// The name of the file at a place; nothing where there is none.
 fn name_at(files: &FileList, place: usize) -> &[u8] {
     if place < files.count() {
@@ -35,21 +35,14 @@ fn name_at(files: &FileList, place: usize) -> &[u8] {
     }
 }
 
-/// Appends a cell that is apart.
-fn push_cell(
-    alloc: Global,
-    told: &mut String,
-    files: &FileList,
-    it: CellOfFile,
-) -> Result<(), AllocError> {
-    let name = String::from_utf8_lossy(alloc, name_at(files, it.place))?;
-    match it.cell {
-        ApartCell::Length { .. } => write!(told, "the length of {name}"),
-        ApartCell::Bytes { cell, .. } => {
-            let begin = cell.saturating_mul(CELL);
-            let last = begin.saturating_add(CELL.saturating_sub(1));
-            write!(told, "bytes {begin} to {last} of {name}")
-        }
+/// The bytes of the file at a place; none where there is none.
+fn bytes_at(files: &FileList, place: usize) -> &[u8]
+    ensures { (file : NamedFile) → slice_get files.now place ≡ Some file → result.now ≡ file.bytes }
+{
+    if place < files.count() {
+        files.bytes(place)
+    } else {
+        &[]
     }
 }
 
@@ -94,7 +87,7 @@ impl Lists {
         };
         for listed in &self.lists {
             for content in contents {
-                let apart = listed.apart.saturating_add(content.count_apart());
+                let apart = listed.apart.saturating_add(content.apart);
                 if apart > most {
                     next.is_cut = true;
                     continue;
@@ -148,7 +141,12 @@ impl<'a> Enumeration<'a> {
                 for place in 0..files.count() {
                     let number = files.number(place);
                     if !choices.iter().any(|file| file.number == number) {
-                        choices.push(Choices::of(alloc, window, model, number)?)?;
+                        let file = FileIn {
+                            window,
+                            model,
+                            number,
+                        };
+                        choices.push(Choices::of(alloc, file)?)?;
                     }
                 }
             }
@@ -159,6 +157,23 @@ impl<'a> Enumeration<'a> {
             choices,
             effects: effects_of(alloc, window)?,
         })
+    }
+
+    /// The file of a number, where names are as at a common moment.
+    fn file_near(&self, number: u64, common: usize) -> FileNear<'_>
+        ensures window { result.file.window.now ≡ self.now.window.now }
+        ensures model { result.file.model ≡ self.now.model }
+        ensures number { result.file.number ≡ number }
+        ensures common { result.common ≡ common }
+    {
+        FileNear {
+            file: FileIn {
+                window: self.window,
+                model: self.model,
+                number,
+            },
+            common,
+        }
     }
 
     /// What the file of a number may hold near a common moment. Nothing where it never lives.
@@ -172,14 +187,8 @@ impl<'a> Enumeration<'a> {
         let Some(choices) = self.choices.iter().find(|file| file.number == number) else {
             return Ok((Vec::new(alloc), false));
         };
-        let file = FileAt {
-            window: self.window,
-            model: self.model,
-            number,
-            moment,
-            choices,
-        };
-        file.contents(alloc, most)
+        let near = self.file_near(number, moment);
+        FileAt { near, choices }.contents(alloc, most)
     }
 
     /// The lists of one directory.
@@ -238,23 +247,86 @@ impl<'a> Enumeration<'a> {
         }
     }
 
-    /// Which changes are there in a list, in words: those before the common moment, but for the cells that are apart.
-    pub fn told(&self, alloc: Global, listed: &Listed) -> Result<String, AllocError> {
+    /// As at which moments the files of a list have their lengths and their cells: those that the rule allows. None where none are found.
+    pub fn moments(
+        &self,
+        alloc: Global,
+        listed: &Listed,
+    ) -> Result<Option<Vec<FileMoments>>, AllocError>
+        ensures { IfOk result (λ found. IfSome found (λ moments.
+            AreMomentsOf self.now.model self.now.window.now.moments.items listed.now.cells.common listed.now.files listed.now.cells.files.items moments.items)) }
+    {
+        let mut all = Vec::new(alloc);
+        for file in &listed.cells.files {
+            let near = self.file_near(file.number, listed.cells.common);
+            let bytes = bytes_at(&listed.files, all.len());
+            let Some(moments) = near.moments(alloc, bytes, file.apart)? else {
+                return Ok(None);
+            };
+            all.push(moments)?;
+        }
+        Ok(Some(all))
+    }
+
+    /// Adds which cells of the file at a place are apart, in words.
+    fn push_file(
+        &self,
+        alloc: Global,
+        apart: &mut Vec<String>,
+        listed: &Listed,
+        (place, moments): (usize, &FileMoments),
+    ) -> Result<(), AllocError> {
+        let Some(file) = listed.cells.files.get(place) else {
+            return Ok(());
+        };
+        let near = self.file_near(file.number, listed.cells.common);
+        let name = String::from_utf8_lossy(alloc, name_at(&listed.files, place))?;
+        if near.is_length_apart(moments.size) {
+            apart.push(format!(in alloc; "the length of {name}")?)?;
+        }
+        for (cell, moment) in moments.cells.iter().enumerate() {
+            if near.is_cell_apart(cell, *moment) {
+                let begin = cell.saturating_mul(CELL);
+                let last = begin.saturating_add(CELL.saturating_sub(1));
+                apart.push(format!(in alloc; "bytes {begin} to {last} of {name}")?)?;
+            }
+        }
+        Ok(())
+    }
+
+    /// Which cells are apart in a list, in words.
+    fn apart(
+        &self,
+        alloc: Global,
+        listed: &Listed,
+        moments: &[FileMoments],
+    ) -> Result<Vec<String>, AllocError> {
+        let mut apart = Vec::new(alloc);
+        for change in &listed.cells.names {
+            let name = self.name_of(alloc, *change)?;
+            apart.push(format!(in alloc; "the name {name}")?)?;
+        }
+        for file in moments.iter().enumerate() {
+            self.push_file(alloc, &mut apart, listed, file)?;
+        }
+        Ok(apart)
+    }
+
+    /// Which changes are there in a list by these moments, in words: those before the common moment, but for the cells that are apart.
+    pub fn told(
+        &self,
+        alloc: Global,
+        listed: &Listed,
+        moments: &[FileMoments],
+    ) -> Result<String, AllocError> {
         let (moment, changes) = (listed.cells.common, self.window.changes());
         let mut told = format!(in alloc;
             "{moment} of {changes} changes since the last sync are there"
         )?;
-        let mut is_first = true;
-        for change in &listed.cells.names {
-            push_apart(&mut told, is_first)?;
-            let name = self.name_of(alloc, *change)?;
-            write!(told, "the name {name}")?;
-            is_first = false;
-        }
-        for it in &listed.cells.apart {
-            push_apart(&mut told, is_first)?;
-            push_cell(alloc, &mut told, &listed.files, *it)?;
-            is_first = false;
+        let mut before = ", but for ";
+        for apart in &self.apart(alloc, listed, moments)? {
+            write!(told, "{before}{apart}")?;
+            before = "; ";
         }
         Ok(told)
     }
@@ -269,9 +341,16 @@ impl<'a> Enumeration<'a> {
 
     /// The moment of a part of a file. A file that has no name in a list is as at the end, if it lost its last name there, and else as at
     /// the sync.
-    fn moment_of(&self, cells: &DiskCells, number: u64, part: Part) -> usize {
-        match cells.place(number) {
-            Some(place) => cells.moment_of(place, part),
+    fn moment_of(
+        &self,
+        cells: &DiskCells,
+        moments: &[FileMoments],
+        number: u64,
+        part: Part,
+    ) -> usize {
+        let place = cells.place(number);
+        match place.and_then(|place| moments.get(place)) {
+            Some(file) => file.moment_of(part),
             None if self.is_past(cells, number) => self.window.changes(),
             None => 0,
         }
@@ -281,23 +360,25 @@ impl<'a> Enumeration<'a> {
     fn push_parts(
         &self,
         cells: &DiskCells,
+        moments: &[FileMoments],
         file: &FileEffect,
         parts: &mut Vec<PartOnDisk>,
     ) -> Result<(), AllocError> {
         for part in &file.parts {
             parts.push(PartOnDisk {
                 part: *part,
-                moment: self.moment_of(cells, file.number, *part),
+                moment: self.moment_of(cells, moments, file.number, *part),
             })?;
         }
         Ok(())
     }
 
-    /// How much a list has of the change after a moment.
+    /// How much a list has by these moments of the change after a moment.
     pub fn on_disk(
         &self,
         alloc: Global,
         listed: &Listed,
+        moments: &[FileMoments],
         change: usize,
     ) -> Result<ChangeOnDisk, AllocError> {
         let mut parts = Vec::new(alloc);
@@ -309,7 +390,7 @@ impl<'a> Enumeration<'a> {
                 })?;
             }
             if let Some(file) = &effect.file {
-                self.push_parts(&listed.cells, file, &mut parts)?;
+                self.push_parts(&listed.cells, moments, file, &mut parts)?;
             }
         }
         Ok(ChangeOnDisk { change, parts })

@@ -1,5 +1,6 @@
 //! The files between two syncs.
-ghost use Rattle.std.specs.Prelude.{◌≡◌, ◌/◌, ◌-◌, ◌++◌, ◌∷◌, [], OnOk, vec_len};
+ghost use Rattle.std.specs.Prelude.{◌≡◌, ◌≢◌, ◌/◌, ◌+◌, ◌-◌, ◌<◌, ◌≤◌, ◌++◌, ◌∷◌, [], ℕ, IfOk, OnOk, Some, None, is_some, IfNone, IfSome, true, vec_len};
+ghost use Rattle.crash_lists.specs.Rules.{bytes_at as bytes_in, is_emptied as empties, is_lengthened as lengthens, living_at as living_in};
 
 use files::FileTable;
 use std::alloc::{AllocError, Global};
@@ -24,7 +25,9 @@ fn cell_of(place: usize) -> usize
 
 impl Window {
     /// The window that a sync begins, with the files then. So many changes were made since the boot.
-    pub fn new(alloc: Global, made: u64, files: &FileTable) -> Result<Window, AllocError> {
+    pub fn new(alloc: Global, made: u64, files: &FileTable) -> Result<Window, AllocError>
+        ensures { IfOk result (λ window. (window.moments.items ≡ files.now ∷ []) × (window.made ≡ made)) }
+    {
         let mut moments = Vec::new(alloc);
         moments.push(files.try_clone()?)?;
         Ok(Window { moments, made })
@@ -43,7 +46,9 @@ impl Window {
     }
 
     /// A sync begins it anew, with the files then. So many changes were made since the boot.
-    pub fn begin_anew(&mut self, made: u64, files: &FileTable) -> Result<(), AllocError> {
+    pub fn begin_anew(&mut self, made: u64, files: &FileTable) -> Result<(), AllocError>
+        ensures { OnOk result ((self.new.moments.items ≡ files.now ∷ []) × (self.new.made ≡ made)) }
+    {
         let files = files.try_clone()?;
         self.moments.clear();
         self.moments.push(files)?;
@@ -52,7 +57,11 @@ impl Window {
     }
 
     /// Adds the files, where a change made others of them: so many were made since the boot.
-    pub fn note(&mut self, made: u64, files: &FileTable) -> Result<(), AllocError> {
+    pub fn note(&mut self, made: u64, files: &FileTable) -> Result<(), AllocError>
+        ensures same { made ≡ self.old.made → self.new.moments.items ≡ self.old.moments.items }
+        ensures more { made ≢ self.old.made → OnOk result (self.new.moments.items ≡ self.old.moments.items ++ files.now ∷ []) }
+        ensures made { OnOk result (self.new.made ≡ made) }
+    {
         if made != self.made {
             self.moments.push(files.try_clone()?)?;
             self.made = made;
@@ -67,20 +76,32 @@ impl Window {
         self.moments.len().saturating_sub(1)
     }
 
+    /// How many moments there are.
+    pub fn moments(&self) -> usize
+        ensures { result ≡ vec_len self.now.moments }
+    {
+        self.moments.len()
+    }
+
     /// The files at a moment, if there is one.
     pub fn files_at(&self, moment: usize) -> Option<&FileTable> {
         self.moments.get(moment)
     }
 
     /// The bytes of the file of a number at a moment, if it lives then.
-    fn living_at(&self, number: u64, moment: usize) -> Option<&[u8]> {
+    fn living_at(&self, number: u64, moment: usize) -> Option<&[u8]>
+        ensures some { IfSome result (λ bytes. living_in self.now.moments.items number moment ≡ Some bytes.now) }
+        ensures none { IfNone result (living_in self.now.moments.items number moment ≡ None) }
+    {
         let files = self.moments.get(moment)?;
         let place = files.place(number)?;
         Some(files.bytes(place))
     }
 
     /// The bytes that the file of a number had last, up to a moment; none before it was made.
-    pub fn bytes_at(&self, number: u64, moment: usize) -> &[u8] {
+    pub fn bytes_at(&self, number: u64, moment: usize) -> &[u8]
+        ensures { result.now ≡ bytes_in self.now.moments.items number moment }
+    {
         for back in 0..=moment {
             if let Some(bytes) = self.living_at(number, moment.saturating_sub(back)) {
                 return bytes;
@@ -90,7 +111,9 @@ impl Window {
     }
 
     /// The first moment at which the file of a number lives.
-    pub fn made_at(&self, number: u64) -> usize {
+    pub fn made_at(&self, number: u64) -> usize
+        ensures { (t : ℕ) → t < vec_len self.now.moments → is_some (living_in self.now.moments.items number t) ≡ true → (result ≤ t) × (is_some (living_in self.now.moments.items number result) ≡ true) }
+    {
         for moment in 0..self.moments.len() {
             if self.living_at(number, moment).is_some() {
                 return moment;
@@ -100,23 +123,31 @@ impl Window {
     }
 
     /// Whether the change after a moment takes all bytes of the file of a number.
-    pub fn is_emptied(&self, number: u64, moment: usize) -> bool {
-        let next = moment.saturating_add(1);
-        match (self.living_at(number, moment), self.living_at(number, next)) {
-            (Some(before), Some(after)) => !before.is_empty() && after.is_empty(),
-            _ => false,
-        }
+    pub fn is_emptied(&self, number: u64, moment: usize) -> bool
+        requires { moment + 1 < vec_len self.now.moments }
+        ensures { result ≡ empties (living_in self.now.moments.items number moment) (living_in self.now.moments.items number (moment + 1)) }
+    {
+        let Some(before) = self.living_at(number, moment) else {
+            return false;
+        };
+        let Some(after) = self.living_at(number, moment + 1) else {
+            return false;
+        };
+        !before.is_empty() && after.is_empty()
     }
 
     /// Whether the change after a moment makes the file of a number longer, and this cell of it ends after its old end.
-    pub fn is_lengthened(&self, number: u64, moment: usize, cell: usize) -> bool {
-        let next = moment.saturating_add(1);
-        match (self.living_at(number, moment), self.living_at(number, next)) {
-            (Some(before), Some(after)) if before.len() < after.len() => {
-                let last = after.len().saturating_sub(1);
-                cell_of(before.len()) <= cell && cell <= cell_of(last)
-            }
-            _ => false,
-        }
+    pub fn is_lengthened(&self, number: u64, moment: usize, cell: usize) -> bool
+        requires { moment + 1 < vec_len self.now.moments }
+        ensures { result ≡ lengthens (living_in self.now.moments.items number moment) (living_in self.now.moments.items number (moment + 1)) cell }
+    {
+        let Some(before) = self.living_at(number, moment) else {
+            return false;
+        };
+        let Some(after) = self.living_at(number, moment + 1) else {
+            return false;
+        };
+        let (old, new) = (before.len(), after.len());
+        old < new && cell_of(old) <= cell && cell <= cell_of(new - 1)
     }
 }
