@@ -1,3 +1,2 @@
 -- The definitions.
-pub mod Batches
 pub mod Verdicts

@@ -1,19 +1,13 @@
 //! `Orders`: whether the user's recovery gets over the crashes of all orders of calls.
-use crate::effort::Effort;
-use crate::point::CrashPlace;
-use crate::promise::Promise;
-use crate::recovery::Recovery;
-use crate::stop::Stop;
-use crate::taker::Taker;
-use crate::testing::Tester;
-use crate::told::Told;
 use crate::verdict::{SearchedStates, Trial, Untried, Verdict, print_tested, verdict_of};
-use crate::window_lists::{Bound, Closed, WindowLists};
 use crash_lists::Window;
+use crash_points::{CrashPlace, Promise, Stop, Taker, Told};
+use crash_visits::{Bound, Closed, WindowLists};
 use exec_runs::Ending;
 use faults::Fault;
 use files::FileList;
 use progress::Progress;
+use recovery_runs::{Effort, Recovery, Tester};
 use std::alloc::Global;
 use std::io::Write;
 use std::rt::Files;

@@ -1,10 +1,8 @@
 //! `save`: a failure as two scripts.
-use crate::course::play_some;
-use crate::failure::Failure;
-use crate::point::CrashPoint;
-use crate::recovery::RecoveryProgram;
+use crash_points::{CrashPoint, play_some};
 use faults::{Fault, at_path};
 use kernel::{Core, Event};
+use recovery_runs::{Failure, RecoveryProgram};
 use scripts::{EventText, Setup, write_setup};
 use std::fs;
 use std::io::Write;

@@ -2,26 +2,17 @@
 ghost use Rattle.std.specs.Prelude.{◌≡◌, true, is_some, IfErr, IfOk, Err, None, Ok};
 ghost use Rattle.exec_runs.specs.declared.ending.Ending.TheVariants.{Over};
 ghost use Rattle.crash_recoveries.specs.Verdicts.{is_failed, is_kept};
-ghost use Rattle.crash_recoveries.specs.declared.stop.Stop.TheVariants.{Fault as StoppedBy};
+ghost use Rattle.crash_points.specs.declared.stop.Stop.TheVariants.{Fault as StoppedBy};
 ghost use Rattle.crash_recoveries.specs.declared.verdict.Verdict.TheVariants.{Kept};
 
-use crate::course::{Course, RunEnd};
-use crate::effort::{Effort, Part};
-use crate::failure::Failure;
-use crate::pending::Tally;
-use crate::point::CrashPlace;
-use crate::recovery::Recovery;
-use crate::stop::Stop;
-use crate::taker::Taker;
-use crate::testing::Tester;
-use crate::trying::Trier;
-use crate::window_lists::{Bound, Rule};
-use crate::windows::WindowTrier;
 use crash_outcomes::{Moment, PassedOver};
+use crash_points::{Course, CrashPlace, RunEnd, Stop, Taker};
+use crash_visits::{Bound, Rule, Trier, WindowTrier};
 use exec_runs::Ending;
 use faults::Fault;
 use kernel::Core;
 use progress::Progress;
+use recovery_runs::{Effort, Failure, Part, Recovery, Tally, Tester};
 use scripts::Setup;
 use std::alloc::{AllocError, Global};
 use std::io::Write;
@@ -309,6 +300,30 @@ pub fn verdict_of(
     }
 }
 
+/// Runs the recovery on what is left of a run that was tried, and prints what came of all.
+fn finish<R: Files + AllocGlobal + Threads + Sync, O: Write, E: Write>(
+    rt: &R,
+    mut tester: Tester<'_, R, E>,
+    run: TriedRun,
+    effort: Effort,
+    out: &mut O,
+) -> Result<Tested, Fault> {
+    let TriedRun {
+        done,
+        core,
+        played,
+        untried,
+    } = run;
+    let done = tester.finish(rt, done);
+    if let Err(Stop::Fault(fault)) = done {
+        return Err(fault);
+    }
+    print_tested(&tester, untried, effort, out)?;
+    let lines = failed_lines(rt.alloc(), tester.failure.as_ref(), played.as_str())?;
+    let verdict = verdict_of(done, tester.into_failure(), lines)?;
+    Ok(Tested { verdict, core })
+}
+
 /// Runs what is set up, and tries crashes as `explore` does, and one more at the end. On each disk that a crash leaves the recovery is
 /// run, once with each promise, and again after its own crashes. By a rule, if one is given, the disks are those that this rule allows
 /// between two syncs, and what was printed is promised. Prints the first recovery that fails, which ends all, and how much was tried. Each
@@ -322,19 +337,8 @@ pub fn try_recoveries<R: Files + AllocGlobal + Threads + Sync, O: Write, E: Writ
     out: &mut O,
     err: &mut E,
 ) -> Result<Tested, Fault> {
-    let alloc = rt.alloc();
     let progress = Progress::new(rt, err, trial.effort.progress);
     let mut tester = Tester::new(rt, &recovery.program, trial.effort, progress);
     let run = run_by(rt, subject, trial.rule, &mut tester);
-    let done = tester.finish(rt, run.done);
-    if let Err(Stop::Fault(fault)) = done {
-        return Err(fault);
-    }
-    print_tested(&tester, run.untried, trial.effort, out)?;
-    let lines = failed_lines(alloc, tester.failure.as_ref(), run.played.as_str())?;
-    let verdict = verdict_of(done, tester.into_failure(), lines)?;
-    Ok(Tested {
-        verdict,
-        core: run.core,
-    })
+    finish(rt, tester, run, trial.effort, out)
 }

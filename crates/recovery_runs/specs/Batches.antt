@@ -1,6 +1,6 @@
 -- What comes of recoveries.
 use Rattle.std.specs.Prelude.{Bool, ◌==◌, not}
-use Rattle.crash_recoveries.specs.declared.running.Ran.{Ran}
+use Rattle.recovery_runs.specs.declared.running.Ran.{Ran}
 
 -- a recovery failed: it did not end with status 0
 abbrev pub has_failed : Ran → Bool

@@ -1,9 +1,27 @@
 //! `Sights`: on which lists of files the recovery need not be run, since it cannot tell them from others.
 use crate::asked::Asked;
-use crate::digests::digest_of_sight;
 use crate::pending::Pending;
+use crash_points::digest_of;
 use std::alloc::{AllocError, Global};
 use std::collections::HashSet;
+
+/// The digest of what runs can see that asked for files by these names: each name with its file's bytes, or that there is no file, and
+/// the promise. How many files there are counts where one may be made.
+fn digest_of_sight(alloc: Global, asked: &Asked, disk: &Pending) -> Result<String, AllocError> {
+    let count = (disk.files.count() as u64).to_be_bytes();
+    let mut texts: Vec<&[u8]> = Vec::new(alloc);
+    texts.push(disk.promise.digest.as_bytes())?;
+    if asked.makes {
+        texts.push(count.as_slice())?;
+    }
+    for name in asked.names.iter() {
+        if let Some(place) = disk.files.find(name.as_slice()) {
+            texts.push(name.as_slice())?;
+            texts.push(disk.files.bytes(place))?;
+        }
+    }
+    digest_of(alloc, texts.as_slice())
+}
 
 /// What is known of a list of files with its promise.
 #[derive(Clone, Copy, PartialEq, Eq)]

@@ -2,14 +2,10 @@
 ghost use Rattle.std.specs.Prelude.{◌≡◌, true, IfSome};
 ghost use Rattle.disk_model.specs.Storage.{is_quiet};
 
-use crate::course::{Course, Playing, RunEnd};
-use crate::point::CrashPlace;
-use crate::promise::Promise;
-use crate::stop::Stop;
-use crate::taker::Taker;
 use crate::window_lists::{Bound, Closed, Rule, WindowLists};
 use crash_lists::Window;
 use crash_outcomes::{moment_of, stands_at_sync};
+use crash_points::{Course, CrashPlace, Playing, Promise, RunEnd, Stop, Taker};
 use exec_runs::Ending;
 use kernel::{Answer, Core, Event, SimDisk};
 use scripts::{EventText, Setup, Visitor, bytes_text};

@@ -1,12 +1,7 @@
 //! `WindowLists`: which lists of files a crash may leave in windows, by another rule than bench's.
 use crate::deeds::deeds_of;
-use crate::digests::digest_of_files;
-use crate::point::CrashPlace;
-use crate::promise::Promise;
-use crate::stop::Stop;
-use crate::taker::Taker;
-use crate::told::{ListedChanges, Told};
 use crash_lists::{CrashModel, Enumeration, Listed, Window};
+use crash_points::{CrashPlace, ListedChanges, Promise, Stop, Taker, Told, digest_of_files};
 use disk_model::MOST_FILES;
 use std::alloc::Global;
 use std::collections::HashSet;

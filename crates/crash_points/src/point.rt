@@ -130,20 +130,3 @@ impl CrashPoint {
         }
     }
 }
-
-/// Crashes of recoveries, one after the other: each cut the recovery short that the one before led to.
-pub type Chain = Vec<CrashPoint>;
-
-/// The chain with one more crash.
-pub fn with_crash(
-    alloc: Global,
-    chain: &[CrashPoint],
-    point: CrashPoint,
-) -> Result<Chain, AllocError> {
-    let mut longer = Vec::new(alloc);
-    for earlier in chain {
-        longer.push(earlier.try_clone(alloc)?)?;
-    }
-    longer.push(point)?;
-    Ok(longer)
-}

@@ -1,6 +1,6 @@
 //! `Told`: what is told of files that a crash may leave, beside when it came.
 use crate::point::Telling;
-use crash_lists::{Enumeration, Listed};
+use crash_lists::{Enumeration, FileMoments, Listed};
 use std::alloc::{AllocError, Global};
 
 /// A list of files that a crash may leave, among those of its window, of which each change does what is said.
@@ -30,20 +30,29 @@ fn push_calls(text: &mut String, calls: &[u32]) -> Result<(), AllocError> {
 }
 
 impl ListedChanges<'_> {
-    /// Appends which changes are there, as one line.
-    fn push_summary(&self, alloc: Global, text: &mut String) -> Result<(), AllocError> {
-        let told = self.lists.told(alloc, self.listed)?;
-        writeln!(text, "{told}")
-    }
-
-    /// Appends a line for each change: its number since the sync, what it does, and how much of it is there.
-    fn push_lines(&self, alloc: Global, text: &mut String) -> Result<(), AllocError> {
+    /// Appends a line for each change: its number since the sync, what it does, and how much of it is there by these moments.
+    fn push_lines(
+        &self,
+        alloc: Global,
+        moments: &[FileMoments],
+        text: &mut String,
+    ) -> Result<(), AllocError> {
         for (change, deed) in self.deeds.iter().enumerate() {
             let number = change.saturating_add(1);
-            let there = self.lists.on_disk(alloc, self.listed, change)?;
+            let there = self.lists.on_disk(alloc, self.listed, moments, change)?;
             writeln!(text, "change {number} {deed}: {there}")?;
         }
         Ok(())
+    }
+
+    /// Appends which changes are there, as one line and change by change; nothing where the list has no moments.
+    fn push(&self, alloc: Global, telling: &mut Telling) -> Result<(), AllocError> {
+        let Some(moments) = self.lists.moments(alloc, self.listed)? else {
+            return Ok(());
+        };
+        let told = self.lists.told(alloc, self.listed, moments.as_slice())?;
+        writeln!(telling.summary, "{told}")?;
+        self.push_lines(alloc, moments.as_slice(), &mut telling.changes)
     }
 }
 
@@ -56,16 +65,21 @@ impl Told<'_> {
         }
     }
 
-    /// The same in words.
-    pub fn telling(self, alloc: Global) -> Result<Telling, AllocError> {
-        let mut telling = Telling::none(alloc);
+    /// Adds it in words.
+    fn push(self, alloc: Global, telling: &mut Telling) -> Result<(), AllocError> {
         if let Some(calls) = self.calls {
             push_calls(&mut telling.summary, calls)?;
         }
-        if let Some(changes) = self.changes {
-            changes.push_summary(alloc, &mut telling.summary)?;
-            changes.push_lines(alloc, &mut telling.changes)?;
+        match self.changes {
+            Some(changes) => changes.push(alloc, telling),
+            None => Ok(()),
         }
+    }
+
+    /// The same in words.
+    pub fn telling(self, alloc: Global) -> Result<Telling, AllocError> {
+        let mut telling = Telling::none(alloc);
+        self.push(alloc, &mut telling)?;
         Ok(telling)
     }
 }

@@ -2,14 +2,10 @@
 ghost use Rattle.std.specs.Prelude.{◌≡◌, true, IfSome};
 ghost use Rattle.disk_model.specs.Storage.{is_quiet};
 
-use crate::course::{Course, Playing, RunEnd};
-use crate::mirror::{Mirror, differ_by_fill};
-use crate::point::CrashPlace;
-use crate::promise::Promise;
-use crate::stop::Stop;
-use crate::taker::Taker;
-use crate::told::Told;
 use crash_outcomes::{FILLS, Fill, Moment, PassedOver, moment_of};
+use crash_points::{
+    Course, CrashPlace, Mirror, Playing, Promise, RunEnd, Stop, Taker, Told, differ_by_fill,
+};
 use exec_runs::Ending;
 use files::FileTable;
 use kernel::{Answer, Core, Event, SimDisk};
@@ -70,8 +66,8 @@ impl<'a, R: Files + AllocGlobal> Trier<'a, R> {
         played
     }
 
-    /// Tries a crash now, with each fill. The core itself goes on.
-    fn try_crashes(&mut self, core: &Core) -> Result<(), Stop> {
+    /// What a crash leaves now, with each fill. The core itself goes on.
+    fn left_by(&mut self, core: &Core) -> Result<Vec<Crashed>, Stop> {
         let alloc = self.rt.alloc();
         let mut left = Vec::new(alloc);
         for fill in FILLS {
@@ -81,9 +77,16 @@ impl<'a, R: Files + AllocGlobal> Trier<'a, R> {
                 break;
             }
         }
+        Ok(left)
+    }
+
+    /// Tries a crash now.
+    fn try_crashes(&mut self, core: &Core) -> Result<(), Stop> {
+        let promise = Promise::of(self.rt.alloc(), self.shown.as_slice(), core)?;
+        let left = self.left_by(core)?;
         self.found.push(Crashes {
             moment: moment_of(self.boots, core),
-            promise: Promise::of(alloc, self.shown.as_slice(), core)?,
+            promise,
             left,
         })?;
         Ok(())

@@ -1,5 +1,5 @@
 //! The user's recovery.
-use crate::promise::Promise;
+use crash_points::Promise;
 use elf32::write;
 use exec_files::LoadedProgram;
 use exec_reports::Family;

@@ -1,14 +1,13 @@
 //! Crashes of a recovery.
 use crate::asked::Asked;
-use crate::digests::digest_of_files;
-use crate::mirror::{Mirror, differ_by_fill};
-use crate::point::{CrashPlace, CrashPoint, Telling};
 use crate::running::Ran;
 use crash_outcomes::{FILLS, Fill, Moment, moment_of, outcome_of};
+use crash_points::{CrashPlace, CrashPoint, Mirror, Telling, differ_by_fill, digest_of_files};
 use faults::Fault;
+use files::FileList;
 use kernel::{Answer, Core, Event};
 use scripts::{Visitor, process_of};
-use std::alloc::Global;
+use std::alloc::{AllocError, Global};
 use std::collections::HashSet;
 
 /// A disk that a crash of a recovery left.
@@ -66,20 +65,30 @@ impl Nested {
         }
     }
 
+    /// Keeps a disk that a crash left.
+    fn keep(
+        &mut self,
+        files: &FileList,
+        place: CrashPlace,
+        digest: String,
+    ) -> Result<(), AllocError> {
+        let point = CrashPoint {
+            place,
+            outcome: outcome_of(self.alloc, files)?,
+            told: Telling::none(self.alloc),
+        };
+        self.left.push(NestedCrash { point, digest })?;
+        Ok(())
+    }
+
     fn try_crash(&mut self, core: &Core, moment: Moment, fill: Fill) -> Result<(), Fault> {
         let alloc = self.alloc;
         let files = self.mirror.files_after(alloc, core, fill)?;
         let digest = digest_of_files(alloc, files.list())?;
         let known = String::from_str(alloc, digest.as_str())?;
-        if !self.known.insert(known)? {
-            return Ok(());
+        if self.known.insert(known)? {
+            self.keep(files.list(), CrashPlace::Filled(moment, fill), digest)?;
         }
-        let point = CrashPoint {
-            place: CrashPlace::Filled(moment, fill),
-            outcome: outcome_of(alloc, files.list())?,
-            told: Telling::none(alloc),
-        };
-        self.left.push(NestedCrash { point, digest })?;
         Ok(())
     }
 }

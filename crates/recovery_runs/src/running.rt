@@ -1,11 +1,10 @@
 //! Runs the recovery on a disk.
 use crate::asked::Asked;
-use crate::course::{play_some, play_to_end};
 use crate::failure::Failure;
 use crate::nested::{Nested, NestedCrash};
 use crate::pending::Pending;
-use crate::point::CrashPoint;
 use crate::recovery::RecoveryProgram;
+use crash_points::{CrashPoint, play_some, play_to_end};
 use exec_reports::status_of_run;
 use faults::Fault;
 use kernel::Core;

@@ -1,13 +1,13 @@
 //! `Batch`: disks on which the recovery is run together, and again after its own crashes.
 ghost use Rattle.std.specs.Prelude.{◌≡◌, None, IfOk, MatchOption, OnOk, position, slice_get, vec_len};
-ghost use Rattle.crash_recoveries.specs.Batches.{has_failed};
+ghost use Rattle.recovery_runs.specs.Batches.{has_failed};
 
 use crate::asked::Asked;
 use crate::nested::NestedCrash;
-use crate::pending::{Job, Pending, Tally};
-use crate::point::{CrashPoint, with_crash};
+use crate::pending::{Job, Pending, Tally, with_crash};
 use crate::running::Ran;
 use crate::tried::Tried;
+use crash_points::CrashPoint;
 use std::alloc::{AllocError, Global};
 
 /// A disk that one of the disks of a batch led to, by its digest.

@@ -1,14 +1,15 @@
 //! What a run had promised when a crash came.
-ghost use Rattle.std.specs.Prelude.{◌≡◌, ◌≤◌, ◌↔◌, ◌++◌, IfOk, IsTrue, vec_len};
+ghost use Rattle.std.specs.Prelude.{◌≡◌, ◌≤◌, ◌↔◌, ◌++◌, IfOk, IsTrue, length};
 ghost use Rattle.kernel_model.specs.Answers.{now};
 ghost use Rattle.kernel_model.specs.Shown.{shown as shown_of, printed as given_to};
 ghost use Rattle.kernel_model.specs.Views.{contents};
 
-use crate::digests::digest_of_bytes;
+use crate::digests::digest_of;
 use byte_list::Bytes;
 use input_reading::MOST_TAPE_BYTES;
 use kernel::Core;
 use std::alloc::{AllocError, Global};
+use std::marker::Model;
 
 /// What a run had promised on terminal 0, in this boot and in those before.
 #[derive(Drop)]
@@ -18,40 +19,48 @@ pub struct Promise {
     pub digest: String,
 }
 
+impl Model for Promise {
+    ghost use Rattle.std.specs.Prelude.{List, ℕ};
+
+    ghost Value = { List ℕ };
+
+    ghost view = { λ t. t.shown.items };
+}
+
 impl Promise {
     fn new(alloc: Global, earlier: &[u8], now: &[u8]) -> Result<Promise, AllocError>
-        ensures { IfOk result (λ promise. promise.shown.items ≡ earlier.now ++ now.now) }
+        ensures { IfOk result (λ promise. promise ≡ earlier.now ++ now.now) }
     {
         let mut shown = Vec::from_slice(alloc, earlier)?;
         shown.extend_from_slice(now)?;
-        let digest = digest_of_bytes(alloc, shown.as_slice())?;
+        let digest = digest_of(alloc, &[shown.as_slice()])?;
         Ok(Promise { shown, digest })
     }
 
     /// The promise of a run so far: what earlier boots showed, and what is shown.
     pub fn of(alloc: Global, earlier: &[u8], core: &Core) -> Result<Promise, AllocError>
-        ensures { IfOk result (λ promise. promise.shown.items ≡ earlier.now ++ shown_of (now core.now) 0) }
+        ensures { IfOk result (λ promise. promise ≡ earlier.now ++ shown_of (now core.now) 0) }
     {
         Promise::new(alloc, earlier, core.shown(0))
     }
 
     /// The promise of a run whose output waits for nothing: what earlier boots showed, and all that was printed.
     pub fn printed(alloc: Global, earlier: &[u8], core: &Core) -> Result<Promise, AllocError>
-        ensures { IfOk result (λ promise. promise.shown.items ≡ earlier.now ++ contents (given_to 0 (now core.now).log)) }
+        ensures { IfOk result (λ promise. promise ≡ earlier.now ++ contents (given_to 0 (now core.now).log)) }
     {
         Promise::new(alloc, earlier, core.written(0))
     }
 
     /// These bytes.
     pub fn of_bytes(alloc: Global, shown: &[u8]) -> Result<Promise, AllocError>
-        ensures { IfOk result (λ promise. promise.shown.items ≡ shown.now) }
+        ensures { IfOk result (λ promise. promise ≡ shown.now) }
     {
         Promise::new(alloc, &[], shown)
     }
 
     /// The same, in memory of its own.
     pub fn try_clone(&self, alloc: Global) -> Result<Promise, AllocError>
-        ensures { IfOk result (λ promise. promise.shown.items ≡ self.now.shown.items) }
+        ensures { IfOk result (λ promise. promise ≡ self.now) }
     {
         Ok(Promise {
             shown: Vec::from_slice(alloc, self.shown.as_slice())?,
@@ -61,14 +70,14 @@ impl Promise {
 
     /// Whether a tape can hold it.
     pub fn fits(&self) -> bool
-        ensures { IsTrue result ↔ vec_len self.now.shown ≤ 65536 }
+        ensures { IsTrue result ↔ length self.now ≤ 65536 }
     {
         self.shown.len() <= MOST_TAPE_BYTES
     }
 
     /// The tape of a recovery.
     pub fn tape(&self, alloc: Global) -> Result<Bytes, AllocError>
-        ensures { IfOk result (λ tape. tape ≡ self.now.shown.items) }
+        ensures { IfOk result (λ tape. tape ≡ self.now) }
     {
         Bytes::copy_of(alloc, self.shown.as_slice())
     }

@@ -1,6 +1,6 @@
 //! `explore`: what each crash of a run leaves.
-use crate::course::{Course, RunEnd, play};
 use crash_outcomes::Explorer;
+use crash_points::{Course, RunEnd, play};
 use faults::Fault;
 use scripts::Setup;
 use std::io::Write;

@@ -1,13 +1,8 @@
 //! Prints what a crash may leave by another rule than bench's.
-use crate::course::{Course, RunEnd};
-use crate::point::CrashPlace;
-use crate::promise::Promise;
-use crate::stop::Stop;
-use crate::taker::Taker;
-use crate::told::Told;
 use crate::window_lists::Rule;
 use crate::windows::WindowTrier;
 use crash_outcomes::outcome_of;
+use crash_points::{Course, CrashPlace, Promise, RunEnd, Stop, Taker, Told};
 use faults::Fault;
 use files::FileList;
 use scripts::Setup;

@@ -1,5 +1,5 @@
 //! How much is tried, and by how many threads.
-ghost use Rattle.std.specs.Prelude.{◌≡◌, ◌≤◌, ◌%◌, ◌-◌, ◌==◌, true, None};
+ghost use Rattle.std.specs.Prelude.{◌≡◌, ◌≤◌, ◌%◌, ◌-◌, ◌==◌, true, IfSome, None};
 
 use std::thread;
 use std::thread::Threads;
@@ -42,7 +42,8 @@ impl Part {
 impl Effort {
     /// Whether what has this number, from 0, is tried.
     pub fn takes(self, number: u64) -> bool
-        ensures { self.part ≡ None → result ≡ true }
+        ensures all { self.part ≡ None → result ≡ true }
+        ensures part { IfSome self.part (λ part. 1 ≤ part.number → part.number ≤ part.of → result ≡ (number % part.of == part.number - 1)) }
     {
         match self.part {
             Some(part) => part.has(number),

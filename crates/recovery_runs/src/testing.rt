@@ -1,22 +1,17 @@
 //! Runs the recovery on what crashes leave.
 ghost use Rattle.std.specs.Prelude.{◌≡◌, true, is_some, Err, None, OnOk};
-ghost use Rattle.crash_recoveries.specs.declared.stop.Stop.TheVariants.{Failed};
+ghost use Rattle.crash_points.specs.declared.stop.Stop.TheVariants.{Failed};
 
 use crate::batch::{Batch, Seen};
 use crate::crew::{Work, run_all};
-use crate::digests::digest_of_files;
 use crate::effort::Effort;
 use crate::failure::Failure;
-use crate::pending::{Job, Pending, Tally};
-use crate::point::CrashPlace;
-use crate::promise::Promise;
+use crate::pending::{Disk, Job, Pending, Tally};
 use crate::recovery::RecoveryProgram;
 use crate::running::{Ran, failure_of};
 use crate::sights::{Sight, Sights};
-use crate::stop::Stop;
-use crate::taker::Taker;
-use crate::told::Told;
 use crate::tried::Tried;
+use crash_points::{CrashPlace, Promise, Stop, Taker, Told, digest_of_files};
 use faults::Fault;
 use files::FileList;
 use progress::{Progress, ProgressCount};
@@ -263,19 +258,25 @@ impl<'a, R: Files + AllocGlobal, E: Write> Tester<'a, R, E> {
         self.judge(batch)
     }
 
+    /// The recovery that failed on one of these disks.
+    fn failure_at(&self, disks: &[Pending], job: Job) -> Result<Failure, Fault> {
+        let Job { disk, chain } = job;
+        match disks.get(disk) {
+            Some(disk) => failure_of(self.rt, self.program, disk, chain),
+            None => Err(Fault::OutOfMemory),
+        }
+    }
+
     /// Keeps the first recovery of a batch that failed, if one did.
     fn judge(&mut self, batch: Batch) -> Result<(), Stop>
         ensures failed { OnOk result (batch.failed ≡ None) }
         ensures kept { result ≡ Err Failed → is_some self.new.failure ≡ true }
     {
         let Batch { disks, failed, .. } = batch;
-        let Some(Job { disk, chain }) = failed else {
+        let Some(job) = failed else {
             return Ok(());
         };
-        let Some(disk) = disks.get(disk) else {
-            return Err(Stop::Fault(Fault::OutOfMemory));
-        };
-        match failure_of(self.rt, self.program, disk, chain) {
+        match self.failure_at(disks.as_slice(), job) {
             Ok(failure) => {
                 self.failure = Some(failure);
                 Err(Stop::Failed)
@@ -317,15 +318,13 @@ impl<R: Files + AllocGlobal, E: Write> Taker for Tester<'_, R, E> {
         if !self.is_new(digest.as_str(), promise)? || !self.is_taken() {
             return Ok(());
         }
-        self.taken.push(Pending {
-            place,
-            told: told.telling(alloc)?,
-            files: files.try_clone()?,
+        let disk = Disk {
+            files,
             digest,
-            promise: promise.try_clone(alloc)?,
-            before: self.run,
-            tried: Tally::NONE,
-        })?;
+            promise,
+        };
+        self.taken
+            .push(Pending::new(alloc, place, told, disk, self.run)?)?;
         Ok(())
     }
 

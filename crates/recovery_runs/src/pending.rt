@@ -1,7 +1,6 @@
 //! Disks on which the recovery is to be run.
-use crate::point::{Chain, CrashPlace, CrashPoint, Telling};
-use crate::promise::Promise;
 use crash_outcomes::outcome_of;
+use crash_points::{CrashPlace, CrashPoint, Promise, Telling, Told};
 use files::FileList;
 use std::alloc::{AllocError, Global};
 
@@ -47,7 +46,39 @@ pub struct Pending {
     pub tried: Tally,
 }
 
+/// The files of a disk with what tells them from others, and what was promised before the crash that left it.
+#[derive(Drop)]
+pub struct Disk<'a> {
+    pub files: &'a FileList,
+    pub digest: String,
+    pub promise: &'a Promise,
+}
+
 impl Pending {
+    /// A disk that a crash left, before any recovery on it.
+    pub fn new(
+        alloc: Global,
+        place: CrashPlace,
+        told: Told<'_>,
+        disk: Disk<'_>,
+        before: Tally,
+    ) -> Result<Pending, AllocError> {
+        let Disk {
+            files,
+            digest,
+            promise,
+        } = disk;
+        Ok(Pending {
+            place,
+            told: told.telling(alloc)?,
+            files: files.try_clone()?,
+            digest,
+            promise: promise.try_clone(alloc)?,
+            before,
+            tried: Tally::NONE,
+        })
+    }
+
     /// The crash, with the files that it left.
     pub fn point(&self, alloc: Global) -> Result<CrashPoint, AllocError> {
         Ok(CrashPoint {
@@ -63,4 +94,21 @@ impl Pending {
 pub struct Job {
     pub disk: usize,
     pub chain: Chain,
+}
+
+/// Crashes of recoveries, one after the other: each cut the recovery short that the one before led to.
+pub type Chain = Vec<CrashPoint>;
+
+/// The chain with one more crash.
+pub fn with_crash(
+    alloc: Global,
+    chain: &[CrashPoint],
+    point: CrashPoint,
+) -> Result<Chain, AllocError> {
+    let mut longer = Vec::new(alloc);
+    for earlier in chain {
+        longer.push(earlier.try_clone(alloc)?)?;
+    }
+    longer.push(point)?;
+    Ok(longer)
 }

@@ -1,6 +1,7 @@
 //! A recovery that failed.
-use crate::point::{Chain, CrashPoint};
+use crate::pending::Chain;
 use call_forms::BytesText;
+use crash_points::CrashPoint;
 use exec_reports::{Family, print_ending, status_of_run};
 use exec_runs::Ending;
 use faults::{Fault, write_line};

@@ -1,11 +1,12 @@
 //! `Mirror`: the disk of a core, in memory of its own, on which crashes are tried.
+use byte_list::Bytes;
 use crash_outcomes::Fill;
 use disk_model::Piece;
 use faults::Fault;
 use files::FileTable;
 use journal::recover;
 use kernel::{Core, Event, SimDisk};
-use std::alloc::Global;
+use std::alloc::{AllocError, Global};
 
 /// The disk of a core without what is in flight. It is made when it is asked for first, and then follows the core, so that no crash
 /// takes a copy of a whole disk. None before, and where a write has failed.
@@ -19,24 +20,41 @@ pub fn differ_by_fill(core: &Core) -> bool {
     core.has_failed() || !core.writes_in_flight().is_empty()
 }
 
-/// Writes bytes to a disk, which has them at once.
-fn put(device: &mut SimDisk, at: u32, bytes: &[u8]) -> Result<(), Fault> {
-    if device.submit(at, bytes).is_err() || device.complete(at).is_err() {
+/// Writes a piece to a disk, which has it at once.
+fn put(device: &mut SimDisk, piece: &Piece) -> Result<(), Fault> {
+    let at = piece.at;
+    if device.submit(at, piece.bytes.as_slice()).is_err() || device.complete(at).is_err() {
         return Err(Fault::OutOfMemory);
     }
     Ok(())
 }
 
-/// The bytes that a disk has where these writes are to go.
-fn old_bytes(alloc: Global, device: &SimDisk, writes: &[Piece]) -> Result<Vec<Vec<u8>>, Fault> {
-    let mut all = Vec::new(alloc);
-    for piece in writes {
-        let begin = piece.at as usize;
-        let end = begin.saturating_add(piece.bytes.as_slice().len());
-        let old = device.bytes().get(begin..end).unwrap_or(&[]);
-        all.push(Vec::from_slice(alloc, old)?)?;
+/// Writes pieces to a disk.
+fn put_all(device: &mut SimDisk, pieces: &[Piece]) -> Result<(), Fault> {
+    for piece in pieces {
+        put(device, piece)?;
     }
-    Ok(all)
+    Ok(())
+}
+
+/// What a disk has where a piece is to go.
+fn old_piece(alloc: Global, device: &SimDisk, piece: &Piece) -> Result<Piece, AllocError> {
+    let begin = piece.at as usize;
+    let end = begin.saturating_add(piece.bytes.as_slice().len());
+    let old = device.bytes().get(begin..end).unwrap_or(&[]);
+    Ok(Piece {
+        at: piece.at,
+        bytes: Bytes::copy_of(alloc, old)?,
+    })
+}
+
+/// What it has where pieces are to go.
+fn old_pieces(alloc: Global, device: &SimDisk, pieces: &[Piece]) -> Result<Vec<Piece>, AllocError> {
+    let mut old = Vec::new(alloc);
+    for piece in pieces {
+        old.push(old_piece(alloc, device, piece)?)?;
+    }
+    Ok(old)
 }
 
 /// The disk that a crash leaves where these writes are in flight.
@@ -49,12 +67,18 @@ fn crashed(mut device: SimDisk, writes: &[Piece], fill: Fill) -> Result<SimDisk,
     Ok(device.crash(fill.bytes()))
 }
 
-/// Writes bytes back to where these writes were to go.
-fn put_back(device: &mut SimDisk, writes: &[Piece], old: Vec<Vec<u8>>) -> Result<(), Fault> {
-    for (piece, bytes) in writes.iter().zip(old) {
-        put(device, piece.at, bytes.as_slice())?;
-    }
-    Ok(())
+/// The files that a crash leaves where these writes are in flight, and the disk as it was before them.
+fn files_left(
+    alloc: Global,
+    device: SimDisk,
+    writes: &[Piece],
+    fill: Fill,
+) -> Result<(FileTable, SimDisk), Fault> {
+    let old = old_pieces(alloc, &device, writes)?;
+    let mut left = crashed(device, writes, fill)?;
+    let files = recover(alloc, &left)?;
+    put_all(&mut left, old.as_slice())?;
+    Ok((files, left))
 }
 
 impl Mirror {
@@ -70,7 +94,7 @@ impl Mirror {
         };
         for piece in core.writes_in_flight() {
             if piece.at == at {
-                put(device, at, piece.bytes.as_slice())?;
+                put(device, piece)?;
             }
         }
         Ok(())
@@ -96,12 +120,8 @@ impl Mirror {
             return Ok(recover(alloc, &core.after_crash(fill.bytes())?)?);
         }
         let device = self.take(core)?;
-        let writes = core.writes_in_flight();
-        let old = old_bytes(alloc, &device, writes)?;
-        let mut left = crashed(device, writes, fill)?;
-        let files = recover(alloc, &left)?;
-        put_back(&mut left, writes, old)?;
-        self.device = Some(left);
+        let (files, device) = files_left(alloc, device, core.writes_in_flight(), fill)?;
+        self.device = Some(device);
         Ok(files)
     }
 }
