@@ -9,7 +9,7 @@ use Rattle.order_laws.specs.Orders.{IsOver}
 use Rattle.state_search.specs.declared.moves.Found.{Found}
 use Rattle.state_search.specs.declared.moves.Reached.{Reached}
 use Rattle.explored_runs.specs.Answering.{AreAfter, AreAnswered, AreNext, HaveKeys, IsNext, boot_in, reached_by_next, reached_in, with_each, working}
-use Rattle.explored_runs.specs.Replays.{seen_after_calls}
+use Rattle.replayed_runs.specs.Replays.{seen_after_calls}
 use Rattle.explored_runs.specs.declared.runs.After.{After}
 use Rattle.explored_runs.specs.declared.runs.Next.{Next}
 use Rattle.explored_runs.specs.declared.runs.Next.TheVariants.{More, Over}

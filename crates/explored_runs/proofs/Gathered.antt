@@ -5,7 +5,7 @@ use Rattle.std.specs.Global.{Vec}
 use Rattle.std.proofs.lemmas.List.{append_assoc}
 use Rattle.state_search.specs.declared.moves.Reached.{Reached}
 use Rattle.explored_runs.specs.Answering.{calls_by_next, calls_in, over_by_next, over_in, reached_by_next, reached_in, visited_in}
-use Rattle.explored_runs.specs.declared.outcome.Outcome.{Outcome}
+use Rattle.order_outcomes.specs.declared.outcome.Outcome.{Outcome}
 use Rattle.explored_runs.specs.declared.visited.VisitedState.{VisitedState}
 use Rattle.explored_runs.specs.declared.runs.After.{After}
 

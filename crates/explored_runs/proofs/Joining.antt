@@ -12,10 +12,11 @@ use Rattle.order_laws.proofs.Calls.{calls_commute}
 use Rattle.order_laws.proofs.Choosing.{found_end}
 use Rattle.order_laws.proofs.Outcomes.{outcomes}
 use Rattle.order_laws.proofs.Private.{stays_private}
+use Rattle.replayed_runs.specs.Replays.{start}
 use Rattle.state_search.specs.Searches.{HasKey, HasSearched, IsSearched, WentOn}
 use Rattle.state_search.specs.declared.moves.Found.{Found}
 use Rattle.state_search.specs.declared.moves.Reached.{Reached}
-use Rattle.explored_runs.specs.CallSearches.{AnswersCalls, FindsAll, FindsByKeys, IsAnswered, KeysTell, Tells, seen_in, start}
+use Rattle.explored_runs.specs.CallSearches.{AnswersCalls, FindsAll, FindsByKeys, IsAnswered, KeysTell, Tells, seen_in}
 
 module _ {X Y : Type 0} (g : X → Y) where
   each_mapped : (xs : List X) → All (λ x. Contains (map g xs) (g x)) xs

@@ -4,12 +4,13 @@ use Rattle.kernel_model.specs.World.{Boot}
 use Rattle.order_laws.specs.Moves.{Seen, calls}
 use Rattle.order_laws.specs.Privacy.{IsPrivate}
 use Rattle.order_laws.specs.Searches.{HasState, WentOn as WentOnAll}
+use Rattle.replayed_runs.specs.Replays.{start}
 use Rattle.state_search.specs.Searches.{HasKey, IsPart, WentOn}
 use Rattle.state_search.specs.Sharing.{HasShare}
 use Rattle.state_search.specs.declared.key.Key.{Key}
 use Rattle.state_search.specs.declared.moves.Found.{Found}
 use Rattle.state_search.specs.declared.moves.Reached.{Reached}
-use Rattle.explored_runs.specs.CallSearches.{AnswersCalls, AreFound, FindsItsPart, GoesOn, IsAnswered, KeysTell, Tells, seen_in, start, state_in}
+use Rattle.explored_runs.specs.CallSearches.{AnswersCalls, AreFound, FindsItsPart, GoesOn, IsAnswered, KeysTell, Tells, seen_in, state_in}
 use Rattle.explored_runs.proofs.Joining.{mapped}
 
 module _ {S : Type 0} (begins : Reached S → Type 0) (expands : List (Found S) → List (Reached S) → Type 0) (gone left others : List (Found S)) (depth : ℕ)

@@ -10,9 +10,9 @@ use Rattle.order_laws.proofs.Choosing.{reached-append}
 use Rattle.state_search.specs.declared.key.Key.{Key}
 use Rattle.state_search.specs.declared.moves.Reached.{Reached}
 use Rattle.explored_runs.specs.Answering.{HasKeyOf, HaveKeys, IsCopyOf, IsRunOf, StandOn, boot_in}
-use Rattle.explored_runs.specs.Replays.{seen_after_calls, seen_of}
-use Rattle.explored_runs.specs.StateKeys.{IsKeyOf}
-use Rattle.explored_runs.specs.declared.replay.Replay.{Replay}
+use Rattle.replayed_runs.specs.Replays.{seen_after_calls, seen_of}
+use Rattle.replayed_runs.specs.StateKeys.{IsKeyOf}
+use Rattle.replayed_runs.specs.declared.replay.Replay.{Replay}
 use Rattle.explored_runs.specs.declared.runs.Runs.{Runs}
 
 module _ (r : Runs) (ps : List ℕ) where

@@ -1,15 +1,9 @@
 mod Answered
 mod BootDisks
-mod Feeding
-mod Footprints
 mod Gathered
 mod Joining
 mod JoiningParts
 mod Keying
 mod Nexts
-mod Outputs
-mod Owning
-mod Replaying
 mod Shares
-mod Taking
 mod Uncut

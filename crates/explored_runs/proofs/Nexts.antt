@@ -17,14 +17,14 @@ use Rattle.order_laws.proofs.Calls.{calls_commute}
 use Rattle.order_laws.proofs.Choosing.{reached-append}
 use Rattle.state_search.specs.declared.moves.Found.{Found}
 use Rattle.state_search.specs.declared.moves.Reached.{Reached}
-use Rattle.explored_runs.specs.Answering.{AreAnswered, AreNext, IsCopyOf, boot_in, ways, with_each, working}
+use Rattle.explored_runs.specs.Answering.{AreAnswered, AreNext, IsCopyOf, IsTried, boot_in, ways, with_each, working}
 use Rattle.explored_runs.specs.CallSearches.{AreCalls, IsAnswered}
-use Rattle.explored_runs.specs.Replays.{IsTried, seen_after_calls, seen_of}
-use Rattle.explored_runs.specs.declared.replay.Replay.{Replay}
+use Rattle.replayed_runs.specs.Replays.{seen_after_calls, seen_of}
+use Rattle.replayed_runs.specs.declared.replay.Replay.{Replay}
 use Rattle.explored_runs.specs.declared.runs.Runs.{Runs}
 use Rattle.explored_runs.specs.declared.runs.Tried.{Tried}
 use Rattle.explored_runs.proofs.Joining.{made, mapped}
-use Rattle.explored_runs.proofs.Owning.{works_there}
+use Rattle.replayed_runs.proofs.Owning.{works_there}
 
 module _ (n : ℕ) (s : Seen) where
   abbrev pub works : ℕ → Bool

@@ -9,7 +9,7 @@ use Rattle.explored_runs.specs.Explored.{Explored, ExploredTo, SearchedAll, Sear
 use Rattle.explored_runs.specs.RunSearches.{FindsPartOfRuns, FindsRuns}
 use Rattle.state_search.specs.declared.parts.Part.{Part}
 use Rattle.explored_runs.specs.declared.runs.Runs.{Runs}
-use Rattle.explored_runs.specs.declared.totals.Totals.{Totals}
+use Rattle.order_outcomes.specs.declared.totals.Totals.{Totals}
 
 -- a list of no elements
 pub none_of : {X : Type 0} (xs : List X) (n : ℕ) → n ≡ length xs → n ≡ 0 → xs ≡ []

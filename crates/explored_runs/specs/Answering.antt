@@ -1,5 +1,5 @@
 -- Runs that are replayed, and what a search of runs is answered: for each run those of one call more.
-use Rattle.std.specs.Prelude.{◌≡◌, ℕ, zero, suc, ◌⊎◌, if◌then◌else◌, List, [], ◌∷◌, ◌++◌, map, length, option_to_list, Result, Ok, Err}
+use Rattle.std.specs.Prelude.{◌≡◌, ℕ, zero, suc, ◌⊎◌, Bool, true, false, if◌then◌else◌, List, [], ◌∷◌, ◌++◌, map, length, option_to_list, Result, Ok, Err}
 use Rattle.std.specs.Global.{Vec}
 use Rattle.disk_model.specs.declared.change.NamedFile.{NamedFile}
 use Rattle.kernel_model.specs.World.{Boot}
@@ -10,10 +10,10 @@ use Rattle.state_search.specs.declared.key.Key.{Key}
 use Rattle.state_search.specs.declared.moves.Found.{Found}
 use Rattle.state_search.specs.declared.moves.Reached.{Reached}
 use Rattle.explored_runs.specs.Booting.{AreFilesOf, boot_of}
-use Rattle.explored_runs.specs.Replays.{seen_after_calls, seen_of}
-use Rattle.explored_runs.specs.StateKeys.{IsKeyOf}
-use Rattle.explored_runs.specs.declared.outcome.Outcome.{Outcome}
-use Rattle.explored_runs.specs.declared.replay.Replay.{Replay}
+use Rattle.replayed_runs.specs.Replays.{seen_after_calls, seen_of}
+use Rattle.replayed_runs.specs.StateKeys.{IsKeyOf}
+use Rattle.order_outcomes.specs.declared.outcome.Outcome.{Outcome}
+use Rattle.replayed_runs.specs.declared.replay.Replay.{Replay}
 use Rattle.explored_runs.specs.declared.runs.After.{After}
 use Rattle.explored_runs.specs.declared.runs.Next.{Next}
 use Rattle.explored_runs.specs.declared.runs.Next.TheVariants.{More, Over}
@@ -55,6 +55,24 @@ pub record IsCopyOf (x y : Replay) : Type 0 where
   pub seen : seen_of y.core ≡ seen_of x.core
   pub boot : y.core.boot ≡ x.core.boot
   pub limit : y.limit ≡ x.limit
+
+-- ---- what came of a call that was tried
+
+-- the call of process p does something
+abbrev pub Works : ℕ → Seen → ℕ → Type 0
+Works n s p = (calls n).works ((calls n).label s p) ≡ true
+
+-- what trying the call of process p came to, after a run of calls ps that comes to s
+abbrev pub IsTried : ℕ → Seen → List ℕ → ℕ → Tried → Type 0
+IsTried n s ps p tried.Idle = (calls n).works ((calls n).label s p) ≡ false
+IsTried n s ps p (tried.Made r) = Works n s p × (r.state.items ≡ ps ++ p ∷ [])
+IsTried n s ps p (tried.Private r) = IsPrivate s p × (r.state.items ≡ ps ++ p ∷ [])
+
+abbrev pub is_idle : Tried → Bool
+is_idle tried.Idle = true
+is_idle _ = false
+
+-- ---- what comes after a run
 
 -- the processes, up to the k-th, whose calls do something
 abbrev pub working : ℕ → Seen → ℕ → List ℕ

@@ -3,21 +3,18 @@ use Rattle.std.specs.Prelude.{◌≡◌, ℕ, ◌≤◌, ◌⊎◌, true, List, 
 use Rattle.std.specs.List.{Contains}
 use Rattle.kernel_model.specs.World.{Boot}
 use Rattle.kernel_model.specs.declared.event.Event.{Event}
-use Rattle.order_laws.specs.Moves.{Seen, calls, first_seen}
+use Rattle.order_laws.specs.Moves.{Seen, calls}
 use Rattle.order_laws.specs.Orders.{IsComplete, reached}
-use Rattle.order_laws.specs.Outcomes.{AllStand, HasOutcomes, settled}
+use Rattle.order_laws.specs.Outcomes.{AllStand, HasOutcomes}
 use Rattle.order_laws.specs.Privacy.{IsPrivate}
 use Rattle.order_laws.specs.Searches.{Found as FoundSeen, HasState, WentOn}
+use Rattle.replayed_runs.specs.Replays.{start}
 use Rattle.state_search.specs.Searches.{Answer, HasKey, HasPart, HasSearched}
 use Rattle.state_search.specs.Sharing.{IsShared}
 use Rattle.state_search.specs.declared.moves.Found.{Found}
 use Rattle.state_search.specs.declared.moves.Reached.{Reached}
 
 -- ---- what is asked of the moves, where a state stands for what `seen` says of it
-
--- where each process of the boot first stops
-abbrev pub start : ℕ → Boot → Seen
-start n b = settled n (first_seen b)
 
 -- a state that was answered stands for this
 abbrev pub IsAnswered : {S : Type 0} → (S → Seen) → List (Reached S) → Seen → Type 0

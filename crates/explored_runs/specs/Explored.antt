@@ -1,20 +1,14 @@
--- Whether all was explored.
-use Rattle.std.specs.Prelude.{◌≡◌, ℕ, nat_lt, if◌then◌else◌, List, [], length, Option, Some, None, option_map}
+-- What an exploration has searched.
+use Rattle.std.specs.Prelude.{◌≡◌, ℕ, List, [], length, Option, Some, None}
 use Rattle.std.specs.Global.{Vec}
-use Rattle.faults.specs.declared.exploration.ExplorationFault.{ExplorationFault}
-use Rattle.faults.specs.declared.exploration.ExplorationFault.TheVariants.{Cut, RunsOn}
 use Rattle.state_search.specs.Searches.{IsCut}
 use Rattle.state_search.specs.declared.bounds.Bounds.{Bounds}
 use Rattle.state_search.specs.declared.moves.Found.{Found}
 use Rattle.state_search.specs.declared.parts.Part.{Part}
 use Rattle.explored_runs.specs.RunSearches.{FindsPartOfRuns, FindsRuns}
 use Rattle.explored_runs.specs.declared.runs.Runs.{Runs}
-use Rattle.explored_runs.specs.declared.totals.Totals.{Totals}
+use Rattle.order_outcomes.specs.declared.totals.Totals.{Totals}
 use Rattle.explored_runs.specs.declared.visited.Visits.{Visits}
-
--- why not all was explored, if it was not: so many states were left after so many calls, or else a process runs on in this outcome
-abbrev pub unexplored : ℕ → ℕ → Option ℕ → Option ExplorationFault
-unexplored left calls runs_on = if nat_lt 0 left then Some (Cut left calls) else option_map (λ outcome. RunsOn outcome) runs_on
 
 -- these runs were searched, and none was left
 pub record SearchedAll (r : Runs) : Type 0 where

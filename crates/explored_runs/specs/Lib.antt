@@ -1,11 +1,5 @@
 pub mod Answering
 pub mod Booting
 pub mod CallSearches
-pub mod Copies
-pub mod Digests
 pub mod Explored
-pub mod Owning
-pub mod PartFiles
-pub mod Replays
 pub mod RunSearches
-pub mod StateKeys

@@ -9,7 +9,7 @@ use Rattle.state_search.specs.declared.moves.Found.{Found}
 use Rattle.state_search.specs.declared.moves.Reached.{Reached}
 use Rattle.explored_runs.specs.Answering.{Expands, HasKeyOf, StandOn, boot_in}
 use Rattle.explored_runs.specs.CallSearches.{AreFound, FindsAll, GoesOn, KeysTell}
-use Rattle.explored_runs.specs.Replays.{seen_after_calls}
+use Rattle.replayed_runs.specs.Replays.{seen_after_calls}
 use Rattle.explored_runs.specs.declared.runs.Runs.{Runs}
 
 -- what a run of these calls comes to

@@ -1,8 +1,8 @@
 //! How processes stand where none can go on.
-use crate::replay::Replay;
 use faults::Fault;
 use kernel::{Answer, Core, Event, Refused};
 use kernel_model::Carrier;
+use replayed_runs::Replay;
 use std::fmt;
 
 /// How a process stands where none can go on.

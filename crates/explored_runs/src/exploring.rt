@@ -2,26 +2,36 @@
 ghost use Rattle.std.specs.Prelude.{OnOk};
 ghost use Rattle.explored_runs.specs.Explored.{Explored, SearchedAll, SearchedPart};
 
-use crate::findings::{Findings, Wanted, print_outcome};
 use crate::limits::Limits;
-use crate::outcome::Outcome;
-use crate::part_file::{PartHead, write_end, write_head, write_outcome, write_state};
 use crate::programs::Programs;
 use crate::run_search::{Heard, Listener, search_runs, search_runs_part};
 use crate::runs::Runs;
 use crate::saved::{script_of, setup_lines};
-use crate::summed::Summed;
-use crate::totals::Totals;
 use crate::visited::Visits;
 use faults::{Fault, at_path};
+use order_outcomes::{
+    Findings, Outcome, PartHead, Summed, Totals, print_outcome, write_end, write_head,
+    write_outcome, write_state,
+};
 use progress::{Progress, ProgressCount};
-use scripts::{Setup, write_setup};
-use state_search::{Found, Key};
+use scripts::Setup;
+use state_search::{Found, Key, StateDigest};
 use std::alloc::{AllocError, Global};
 use std::io::Write;
 use std::rt::Files;
 use std::thread::Threads;
 use std::{fs, io};
+
+/// What is wanted of the outcomes.
+#[derive(Clone, Copy)]
+pub struct Wanted<'a> {
+    /// The text whose lines are the outcomes that are expected, if any are.
+    pub expected: Option<&'a str>,
+    /// The folder into which a script of each is written, if one is given.
+    pub folder: Option<&'a str>,
+    /// Whether it is told how far the search has come.
+    pub progress: bool,
+}
 
 /// Prints the outcomes of a search, each once.
 struct Printer<'r, 'p, 'w, 'o, 'e, R, O, E> {
@@ -192,12 +202,11 @@ impl<R: Files + AllocGlobal + Threads + Sync, O: Write, E: Write> Printer<
     }
 }
 
-/// The sum of what is set up, with the images that were read.
-fn sum_of(alloc: Global, setup: &Setup) -> Result<Key, Fault> {
-    let mut nowhere = io::sink();
-    let mut summed = Summed::new(&mut nowhere);
-    write_setup(alloc, setup, &mut summed)?;
-    Ok(summed.sum()?)
+/// The sum of the set-up lines, with the images that were read.
+fn sum_of(lines: &[u8]) -> Key {
+    let mut digest = StateDigest::new();
+    digest.text(lines);
+    digest.key()
 }
 
 /// Finds all outcomes of programs, whatever the order of their calls, each by as few calls as lead to it, and prints each once, and then
@@ -220,6 +229,7 @@ pub fn explore_orders<R: Files + AllocGlobal + Threads + Sync, O: Write, E: Writ
     let findings = Findings::new(alloc, wanted.expected)?;
     let programs = Programs::of_setup(rt, setup)?;
     let lines = setup_lines(alloc, setup)?;
+    let sum = sum_of(lines.as_slice());
     let runs = Runs {
         alloc,
         programs: &programs,
@@ -242,7 +252,7 @@ pub fn explore_orders<R: Files + AllocGlobal + Threads + Sync, O: Write, E: Writ
         Some(part) => printer.search_part(
             limits,
             PartHead {
-                programs: sum_of(alloc, setup)?,
+                programs: sum,
                 instructions: u64::from(limits.instructions),
                 states: limits.states,
                 calls: limits.bounds().moves,

@@ -13,7 +13,7 @@ const FEW: usize = 4;
 
 /// From states to which so many calls lead a search goes on no farther where no other number is given. A process that polls for ever comes
 /// there.
-pub const MOST_CALLS: u64 = 10_000;
+const MOST_CALLS: u64 = 10_000;
 
 /// How far is searched, and by how many threads.
 #[derive(Clone, Copy)]

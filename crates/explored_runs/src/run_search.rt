@@ -7,11 +7,11 @@ ghost use Rattle.explored_runs.specs.RunSearches.{FindsPartOfRuns, FindsRuns, Is
 use crate::call_search::{search_calls, search_calls_part};
 use crate::crew::after_each;
 use crate::limits::taken_by;
-use crate::outcome::Outcome;
 use crate::runs::Runs;
 use crate::sorting::{Sorted, sort_out};
 use crate::visited::VisitedState;
 use faults::Fault;
+use order_outcomes::Outcome;
 use state_search::{Bounds, Found, Moves, Part, PartSearched, Reached, Searched};
 use std::alloc::AllocError;
 use std::thread::Threads;

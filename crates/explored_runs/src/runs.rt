@@ -1,17 +1,17 @@
 //! Runs as a search sees them. A run is the processes whose calls lead to it, and is replayed on a copy of a core that was booted.
 ghost use Rattle.std.specs.Prelude.{◌≡◌, ◌∷◌, ◌++◌, [], List, true, false, IfOk};
 ghost use Rattle.disk_model.specs.declared.change.NamedFile.{NamedFile};
-ghost use Rattle.explored_runs.specs.Answering.{HasTriedKey, HaveKeys, IsCopyOf, IsNext, IsRunOf, StandOn, boot_in, calls_by_next, reached_by_next};
-ghost use Rattle.explored_runs.specs.Replays.{IsTried, is_idle, seen_after_calls, seen_of};
+ghost use Rattle.explored_runs.specs.Answering.{HasTriedKey, HaveKeys, IsCopyOf, IsNext, IsRunOf, IsTried, StandOn, boot_in, calls_by_next, is_idle, reached_by_next};
+ghost use Rattle.replayed_runs.specs.Replays.{seen_after_calls, seen_of};
 ghost use Rattle.explored_runs.specs.RunSearches.{IsFirstRun};
-ghost use Rattle.explored_runs.specs.StateKeys.{IsKeyOf};
+ghost use Rattle.replayed_runs.specs.StateKeys.{IsKeyOf};
 
-use crate::outcome::{Outcome, outcome_of};
+use crate::outcome::outcome_of;
 use crate::programs::Programs;
-use crate::replay::{Called, Replay};
-use crate::state_key::key_of;
 use crate::visited::{VisitedState, Visits};
 use faults::Fault;
+use order_outcomes::Outcome;
+use replayed_runs::{Called, Replay, key_of};
 use state_search::Reached;
 use std::alloc::{AllocError, Global};
 

@@ -1,8 +1,8 @@
 //! The run of an outcome as a script.
-use crate::replay::Replay;
 use faults::Fault;
 use kernel::Event;
 use kernel_model::TERMINALS;
+use replayed_runs::Replay;
 use scripts::{EventText, Setup, write_setup};
 use std::alloc::{AllocError, Global};
 use std::io;

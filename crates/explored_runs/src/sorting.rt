@@ -2,9 +2,9 @@
 ghost use Rattle.std.specs.Prelude.{◌≡◌, ◌++◌, IfOk, OnOk, option_to_list};
 ghost use Rattle.explored_runs.specs.Answering.{calls_in, over_by_next, over_in, reached_by_next, reached_in, visited_in};
 
-use crate::outcome::Outcome;
 use crate::runs::{After, Next};
 use crate::visited::VisitedState;
+use order_outcomes::Outcome;
 use state_search::Reached;
 use std::alloc::{AllocError, Global};
 

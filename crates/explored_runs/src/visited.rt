@@ -1,8 +1,7 @@
 //! A state of a search of all orders, as it is visited.
-use crate::replay::Replay;
-use crate::windows::copy_of;
 use crash_lists::Window;
 use files::FileList;
+use replayed_runs::Replay;
 use std::alloc::{AllocError, Global};
 
 /// What is visited of a search.
@@ -36,7 +35,7 @@ impl VisitedState {
             calls: Vec::from_slice(alloc, calls)?,
             files: core.tables().files.list().try_clone()?,
             shown: Vec::from_slice(alloc, core.written(0))?,
-            window: copy_of(alloc, &replay.window)?,
+            window: replay.window_copy(alloc)?,
         })
     }
 

@@ -4,16 +4,15 @@ ghost use Rattle.explored_runs.specs.Explored.{ExploredTo, SearchedTo};
 
 use crate::ends::end_of;
 use crate::limits::Limits;
-use crate::outcome::Outcome;
 use crate::programs::Programs;
-use crate::replay::Replay;
 use crate::run_search::{Heard, Listener, search_runs};
 use crate::runs::Runs;
 use crate::saved::lines_of;
-use crate::totals::Totals;
 use crate::visited::{VisitedState, Visits};
 use faults::Fault;
 use kernel::Core;
+use order_outcomes::{Outcome, Totals};
+use replayed_runs::Replay;
 use scripts::Setup;
 use std::alloc::AllocError;
 use std::rt::Files;
@@ -206,7 +205,7 @@ pub fn end_of_calls<R: Files + AllocGlobal>(
     for pid in 1..=replay.last_process() {
         end_of(&mut replay, pid)?;
     }
-    let Replay { mut core, .. } = replay;
+    let mut core = replay.into_core();
     match core.drain() {
         Ok(()) => Ok(core),
         Err(_) => Err(Fault::OutOfMemory),

@@ -2,15 +2,16 @@
 use crate::crash_orders::{OrdersTested, recover_orders};
 use crate::crash_subject::{CrashSubject, program_in, subject_in};
 use command_line::{CrashOptions, ModelName, OrderBounds};
-use crash_recoveries::{
-    Course, CrashModel, Effort, Failure, Part, Recovery, Rule, RunEnd, Subject, Tested, Trial,
-    Verdict, explore, explore_by, save, try_recoveries,
-};
+use crash_lists::CrashModel;
+use crash_points::{Course, RunEnd};
+use crash_recoveries::{Subject, Tested, Trial, Verdict, save, try_recoveries};
+use crash_visits::{Rule, explore, explore_by};
 use exec_reports::{Family, print_ending, status_of_run};
 use exec_runs::Ending;
 use faults::{Fault, write_line};
 use host_files::text_in;
 use kernel::Core;
+use recovery_runs::{Effort, Failure, Part, Recovery};
 use script_files::of_files;
 use scripts::Setup;
 use std::fmt;

@@ -5,14 +5,14 @@ ghost use Rattle.faults.specs.declared.exploration.ExplorationFault.TheVariants.
 
 use crate::exploring::limits_of;
 use command_line::OrderBounds;
-use crash_recoveries::{
-    Effort, OrderState, Orders, OrdersTried, Recovery, SearchedStates, Stop, Tested, Trial, Verdict,
-};
+use crash_points::Stop;
+use crash_recoveries::{OrderState, Orders, OrdersTried, SearchedStates, Tested, Trial, Verdict};
 use explored_runs::{
     ExploredStates, StateTaker, VisitedState, Visits, end_of_calls, explore_states, lines_of_calls,
 };
 use faults::{ExplorationFault, Fault};
 use progress::{Progress, ProgressCount};
+use recovery_runs::{Effort, Recovery};
 use scripts::Setup;
 use std::alloc::Global;
 use std::io::{self, Sink, Write};

@@ -1,6 +1,6 @@
 //! What `crashes` runs: a script, or programs.
 use command_line::CrashOptions;
-use crash_recoveries::Course;
+use crash_points::Course;
 use elf32::MOST_LINKED_BYTES;
 use exec_files::{LoadedProgram, program_of, refused};
 use exec_reports::Family;

@@ -1,10 +1,12 @@
 //! All orders of the calls of programs in files of the host.
 use command_line::{ExploreOptions, OrderBounds};
-use explored_runs::{Limits, MergeFault, Part, Wanted, explore_orders, merge_parts};
+use explored_runs::{Limits, Wanted, explore_orders};
 use faults::{Fault, at_path, write_line};
 use host_files::{text_in, text_of_file};
+use order_outcomes::{MergeFault, merge_parts};
 use script_files::{of_files, of_script};
 use scripts::{Script, Setup};
+use state_search::Part;
 use std::alloc::{AllocError, Global};
 use std::fs;
 use std::io::Write;

@@ -1,4 +1,5 @@
 pub mod Adding
+pub mod Digests
 pub mod Going
 pub mod Keys
 pub mod Searches

@@ -1,7 +1,7 @@
 -- The part was answered with calls.
 use Rattle.std.proofs.Common.{ℕ, List, ap}
 use Rattle.explored_runs.specs.Answering.{boot_in}
-use Rattle.explored_runs.specs.Replays.{seen_after_calls}
+use Rattle.replayed_runs.specs.Replays.{seen_after_calls}
 use Rattle.explored_runs.specs.RunSearches.{seen_in_runs}
 use Rattle.explored_runs.proofs.Nexts.{are_calls}
 use Rattle.explored_runs.proofs.run_search.search_runs_part.Goals as goal

@@ -4,7 +4,7 @@ use Rattle.std.specs.Prelude.{option_to_list}
 use Rattle.std.specs.Global.{Vec}
 use Rattle.state_search.specs.declared.moves.Reached.{Reached}
 use Rattle.explored_runs.specs.Answering.{calls_in, over_by_next, reached_by_next}
-use Rattle.explored_runs.specs.declared.outcome.Outcome.{Outcome}
+use Rattle.order_outcomes.specs.declared.outcome.Outcome.{Outcome}
 use Rattle.explored_runs.specs.declared.visited.VisitedState.{VisitedState}
 use Rattle.explored_runs.proofs.Gathered.{calls_more, over_more, reached_more, visited_more}
 use Rattle.explored_runs.proofs.sorting.sort_out.Goals as goal

@@ -3,7 +3,7 @@ use Rattle.std.proofs.Common.{◌∙◌, List, ap, subst}
 use Rattle.disk_model.specs.declared.change.NamedFile.{NamedFile}
 use Rattle.order_laws.specs.Moves.{Seen}
 use Rattle.explored_runs.specs.Answering.{IsNext, boot_in}
-use Rattle.explored_runs.specs.Replays.{seen_after_calls}
+use Rattle.replayed_runs.specs.Replays.{seen_after_calls}
 use Rattle.explored_runs.proofs.BootDisks.{one_files}
 use Rattle.explored_runs.proofs.runs.Runs.after.Goals as goal
 

@@ -5,13 +5,13 @@ use Rattle.std.specs.Vec.{vec_len}
 use Rattle.std.proofs.lemmas.Bool.{false≢true}
 use Rattle.kernel_model.specs.State.{SyncState}
 use Rattle.order_laws.specs.Moves.{Seen}
+use Rattle.order_laws.proofs.Outcomes.{tells}
 use Rattle.state_search.specs.declared.moves.Reached.{Reached}
-use Rattle.explored_runs.specs.Answering.{HasTriedKey, ways, with_each, working}
-use Rattle.explored_runs.specs.Replays.{IsTried, is_idle, seen_of}
+use Rattle.explored_runs.specs.Answering.{HasTriedKey, IsTried, is_idle, ways, with_each, working}
+use Rattle.replayed_runs.specs.Replays.{seen_of}
 use Rattle.explored_runs.specs.declared.runs.Tried.{Tried}
 use Rattle.explored_runs.proofs.Keying.{copy_is, keys_more}
 use Rattle.explored_runs.proofs.Nexts.{asked_idle, asked_made, empty_of, none_asked, not_empty, tried_in}
-use Rattle.explored_runs.proofs.Replaying.{seen_sync}
 use Rattle.explored_runs.proofs.runs.Runs.next.Goals as goal
 use Rattle.explored_runs.proofs.runs.Runs.next.Goals.{in-Idle, in-Made+in_ok-push-in-Made}
 
@@ -57,7 +57,7 @@ returns-then-not-is_empty-clause-next c =
     let ps = c.args.calls.now in
     let rs = c.loop-place.reached.items in
     let last : c.loop-place.place ≡ c.last_process-place-end.result = omega (arith, c.loop-place-test.false, c.loop-place.auto.place-end) in
-    let many : c.loop-place.place ≡ length s.sync.processes = last ∙ c.last_process-place-end.ensures ∙ sym (ap (λ (u : SyncState). length u.processes) (seen_sync c.args.replay.core)) in
+    let many : c.loop-place.place ≡ length s.sync.processes = last ∙ c.last_process-place-end.ensures ∙ sym (ap (λ (u : SyncState). length u.processes) (tells c.args.replay.core.boot c.args.replay.core.history).sync) in
     let all = subst (λ k. ways rs ≡ with_each ps (working n s k)) many c.loop-place.invariant.asked in
     let size : vec_len c.loop-place.reached ≡ length rs = search rules in
     (inr all, not_empty rs (vec_len c.loop-place.reached) size (sym c.is_empty.ensures ∙ c.if-not-is_empty.true))
@@ -69,7 +69,7 @@ returns-clause-next c =
     let ps = c.args.calls.now in
     let rs = c.loop-place.reached.items in
     let last : c.loop-place.place ≡ c.last_process-place-end.result = omega (arith, c.loop-place-test.false, c.loop-place.auto.place-end) in
-    let many : c.loop-place.place ≡ length s.sync.processes = last ∙ c.last_process-place-end.ensures ∙ sym (ap (λ (u : SyncState). length u.processes) (seen_sync c.args.replay.core)) in
+    let many : c.loop-place.place ≡ length s.sync.processes = last ∙ c.last_process-place-end.ensures ∙ sym (ap (λ (u : SyncState). length u.processes) (tells c.args.replay.core.boot c.args.replay.core.history).sync) in
     let all = subst (λ k. ways rs ≡ with_each ps (working n s k)) many c.loop-place.invariant.asked in
     let size : vec_len c.loop-place.reached ≡ length rs = search rules in
     let none = empty_of rs (vec_len c.loop-place.reached) size (sym c.is_empty.ensures ∙ c.if-not-is_empty.false) in

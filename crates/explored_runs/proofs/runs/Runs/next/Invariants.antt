@@ -1,7 +1,7 @@
 -- The processes before this place were asked. The copy stands where the run does, unless a call was made in it.
 use Rattle.std.proofs.Common.{◌≡◌, false}
 use Rattle.explored_runs.specs.Answering.{HaveKeys, IsCopyOf, IsRunOf, ways, with_each, working}
-use Rattle.explored_runs.specs.Replays.{seen_of}
+use Rattle.replayed_runs.specs.Replays.{seen_of}
 use Rattle.explored_runs.proofs.runs.Runs.next.Given as goal
 
 abbrev pub invariant-loop-place : goal.invariant-loop-place

@@ -3,7 +3,7 @@ use Rattle.std.proofs.Common.{◌≡◌, drop}
 use Rattle.order_laws.specs.Moves.{calls}
 use Rattle.order_laws.specs.Orders.{reached}
 use Rattle.explored_runs.specs.Answering.{StandOn, boot_in}
-use Rattle.explored_runs.specs.Replays.{seen_after_calls, seen_of}
+use Rattle.replayed_runs.specs.Replays.{seen_after_calls, seen_of}
 use Rattle.explored_runs.proofs.runs.Runs.replay_on.Given as goal
 
 abbrev pub invariant-loop-pid : goal.invariant-loop-pid

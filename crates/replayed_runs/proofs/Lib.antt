@@ -1,0 +1,6 @@
+mod Feeding
+mod Footprints
+mod Outputs
+pub mod Owning
+mod Replaying
+mod Taking

@@ -1,0 +1,4 @@
+pub mod Copies
+pub mod Owning
+pub mod Replays
+pub mod StateKeys
