@@ -1,14 +1,13 @@
 //! What a call costs the kernel: the time of its Enter after a short history and after a long one. The calls are a write to a
 //! terminal, to a file and to a pipe, and the removal of a file.
-use crate::ratios::thousandths;
 use anyhow::Error;
 use assembler::assemble;
 use kernel::{Core, Event, Program, SimDisk};
-use std::alloc::Global;
+use std::alloc::{AllocError, Global};
 use std::time::{Clock, Duration, Instant};
 
 /// After how many events the Enters are timed first.
-pub const SHORT: usize = 1_000;
+const SHORT: usize = 1_000;
 
 /// How many calls are looked at there.
 const CALLS: u32 = 2_000;
@@ -90,10 +89,10 @@ name:   .ascii \"f\"
 
 /// A program that makes the same calls again and again: what is timed, and its source. Then come how many calls a round of its has, of
 /// which the last is timed, and after how many events they are timed again.
-pub type Writer = (&'static str, &'static str, u64, usize);
+type Writer = (&'static str, &'static str, u64, usize);
 
 /// One for each thing that is written to, and one for files that are made and removed: 1,000,000 of them.
-pub const WRITERS: [Writer; 4] = [
+const WRITERS: [Writer; 4] = [
     ("a write to a terminal", TO_A_TERMINAL, 1, 100_000),
     ("a write to a file", TO_A_FILE, 2, 100_000),
     ("a write to a pipe", TO_A_PIPE, 2, 100_000),
@@ -183,7 +182,29 @@ impl Run {
     }
 }
 
-/// What a writer's call takes after many events, in thousandths of what it takes after few.
-pub fn ratio_of<R: AllocGlobal + Clock>(rt: &R, writer: &Writer) -> Result<u128, Error> {
-    Run::of(rt.alloc(), writer)?.ratio(rt)
+/// A time, in thousandths of another.
+fn thousandths(time: Duration, other: Duration) -> u128 {
+    time.as_nanos().saturating_mul(1000) / other.as_nanos().max(1)
+}
+
+/// Adds a line after those before it.
+fn add(lines: &mut String, line: &str) -> Result<(), AllocError> {
+    if !lines.is_empty() {
+        lines.push_str("\n")?;
+    }
+    lines.push_str(line)
+}
+
+/// What each writer's call takes after many events, in thousandths of what it takes after few.
+pub fn write_lines<R: AllocGlobal + Clock>(rt: &R) -> Result<String, Error> {
+    let mut lines = String::new(rt.alloc());
+    for writer in &WRITERS {
+        let ratio = Run::of(rt.alloc(), writer)?.ratio(rt)?;
+        let &(does, _, _, long) = writer;
+        let line = format!(in rt.alloc();
+            "{does}: after {long} events {ratio} thousandths of its time after {SHORT}"
+        )?;
+        add(&mut lines, line.as_str())?;
+    }
+    Ok(lines)
 }

@@ -1,7 +1,7 @@
 //! Tests of `simdisk`: writes in flight, refusals and a crash.
 use crate::asserting::assert_row;
 use simdisk::{DiskRefusal, SimDisk};
-use std::alloc::{AllocError, Global};
+use std::alloc::Global;
 use std::process::Abort;
 
 /// Writes that are out of range: into one that is in flight, of no bytes, and past the end.
@@ -47,27 +47,6 @@ fn crashed(rt: &impl Abort, alloc: Global) -> Result<SimDisk, DiskRefusal> {
     Ok(device.crash(b"123"))
 }
 
-// The longest write that ends with the disk.
-fn opened_bytes(alloc: Global) -> Result<Vec<u8>, AllocError> {
-    vec![in alloc; 7; 4096]
-}
-
-/// The byte at 64 of a disk that is opened with these bytes, and crashes while the longest write is in flight.
-fn kept_byte(alloc: Global, bytes: &[u8]) -> Result<u8, DiskRefusal> {
-    let mut opened = SimDisk::open(alloc, bytes)?;
-    opened.submit(2093056, &opened_bytes(alloc)?)?;
-    let kept = opened.crash(b"");
-    Ok(kept.bytes()[64])
-}
-
-/// The number of the refusal of a disk of these bytes, if they are refused.
-fn refused(alloc: Global, bytes: &[u8]) -> Option<u8> {
-    match SimDisk::open(alloc, bytes) {
-        Ok(_) => None,
-        Err(refusal) => Some(refusal.number()),
-    }
-}
-
 /// The crashed disk is quiet. It has the completed write, and where the others were the bytes of the crash.
 fn assert_left(rt: &impl Abort, device: &SimDisk) {
     assert_row(rt, "quiet", device.quiet(), true);
@@ -79,7 +58,5 @@ fn assert_left(rt: &impl Abort, device: &SimDisk) {
 fn writes_of_a_disk(rt: HostRuntime) -> Result<(), DiskRefusal> {
     let device = crashed(&rt, rt.alloc())?;
     assert_left(&rt, &device);
-    assert_row(&rt, "kept", kept_byte(rt.alloc(), device.bytes())?, b'd');
-    assert_row(&rt, "short", refused(rt.alloc(), b"short"), Some(4));
     Ok(())
 }

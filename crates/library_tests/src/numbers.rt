@@ -1,8 +1,11 @@
-//! Tests of the numbers of refusals and faults, and of the names of an assembler's faults.
+//! Tests of the numbers of refusals and faults, and of the names of those that no case shows.
 use crate::asserting::{assert_row, assert_shown};
+use asm_text::TextFault;
 use assembler::Cause;
+use elf32::ElfFault;
 use formats::FieldFault;
 use group_commit::CommitRefusal;
+use journal::DiskFault;
 use machine_model::BusFault;
 use simdisk::DiskRefusal;
 use std::alloc::AllocError;
@@ -29,44 +32,41 @@ const BUS_FAULTS: &[(BusFault, u8)] = &[
     (BusFault::Misaligned, 3),
 ];
 
-/// The faults of an assembler, with their names.
-const CAUSES: &[(Cause, u8, &str)] = &[
-    (Cause::Syntax, 1, "Syntax"),
-    (Cause::UnknownName, 2, "UnknownName"),
-    (Cause::DoubleLabel, 3, "DoubleLabel"),
-    (Cause::Range, 4, "Range"),
-    (Cause::NoStart, 5, "NoStart"),
-    (Cause::TooLarge, 6, "TooLarge"),
-    (Cause::OutOfMemory, 7, "OutOfMemory"),
-];
-
 #[test]
-fn refusals_of_a_device(rt: HostRuntime) {
+fn refusals_and_faults(rt: HostRuntime) {
     for &(refusal, number) in DISK_REFUSALS {
         assert_row(&rt, refusal, refusal.number(), number);
     }
-}
-
-#[test]
-fn refusals_of_a_committer(rt: HostRuntime) {
     for &(refusal, number) in COMMIT_REFUSALS {
         assert_row(&rt, refusal, refusal.number(), number);
     }
-}
-
-#[test]
-fn faults_of_an_access_and_of_a_field(rt: HostRuntime) {
     for &(fault, number) in BUS_FAULTS {
         assert_row(&rt, fault, fault.number(), number);
     }
     assert_row(&rt, "a field", FieldFault::Range.number(), 1);
 }
 
+/// The other numbers of these faults stand in `damage.cores`, `images_refused.sessions` and `sources_refused.sessions`.
 #[test]
-fn faults_of_an_assembler(rt: HostRuntime) -> Result<(), AllocError> {
-    for &(cause, number, name) in CAUSES {
-        assert_row(&rt, name, cause.number(), number);
-        assert_shown(&rt, rt.alloc(), &cause, name)?;
-    }
-    Ok(())
+fn want_of_memory(rt: HostRuntime) -> Result<(), AllocError> {
+    let numbers = [
+        DiskFault::OutOfMemory.number(),
+        ElfFault::OutOfMemory.number(),
+        Cause::OutOfMemory.number(),
+        asm_text::Cause::OutOfMemory.number(),
+    ];
+    assert_row(&rt, "numbers", numbers, [4, 13, 7, 2]);
+    assert_shown(&rt, rt.alloc(), &ElfFault::OutOfMemory, "OutOfMemory")?;
+    assert_shown(&rt, rt.alloc(), &Cause::OutOfMemory, "OutOfMemory")
+}
+
+#[test]
+fn faults_of_a_text(rt: HostRuntime) -> Result<(), AllocError> {
+    let fault = TextFault {
+        why: asm_text::Cause::Syntax,
+        line: 2,
+        column: 9,
+    };
+    assert_row(&rt, "syntax", fault.why.number(), 1);
+    assert_shown(&rt, rt.alloc(), &fault, "2:9: syntax")
 }

@@ -3,7 +3,7 @@ ghost use Rattle.std.specs.Prelude.{◌≤◌};
 
 use crate::asserting::assert_row;
 use console::{Cursor, PumpFault, pump};
-use std::alloc::{AllocError, Global};
+use std::alloc::Global;
 use std::io::{self, Error, ErrorKind, Write};
 use std::process::Abort;
 
@@ -101,24 +101,6 @@ fn a_full_writer_is_a_fault(rt: HostRuntime) {
             expect_part(&rt, room, full);
         }
     }
-}
-
-#[test]
-fn a_long_text_goes_out(rt: HostRuntime) -> Result<(), AllocError> {
-    let text = vec![in rt.alloc(); b'x'; 10_000]?;
-    let mut writer = Fake::new(rt.alloc(), 7, text.len(), Full::Fails);
-    let pumped = pump(&mut writer, text.as_slice(), 0);
-    assert_row(&rt, "upto", pumped, Ok(10_000));
-    assert_row(&rt, "taken", writer.held.as_slice(), text.as_slice());
-    Ok(())
-}
-
-#[test]
-fn a_vector_takes_all(rt: HostRuntime) {
-    let mut writer = Vec::new(rt.alloc());
-    assert_row(&rt, "upto", pump(&mut writer, TEXT, 4), Ok(22));
-    let text = b"text that goes out".as_slice();
-    assert_row(&rt, "taken", writer.as_slice(), text);
 }
 
 #[test]

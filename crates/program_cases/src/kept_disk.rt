@@ -1,22 +1,23 @@
 //! Tests the file in which a run keeps its disk: the files beside it, its rights, links at its path, and the lock by which one run
 //! has it. An image that is written through a link is tested too.
-use crate::faulty_output::{Output, check_output};
+use crate::faulty_output::check_closed;
+use crate::program::Program;
 use crate::running::{ENDS, check_status};
 use anyhow::{Error, ensure};
 use std::fs::{self, File, OpenOptions, Permissions};
-use std::io::ErrorKind;
 use std::os::unix::fs::{PermissionsExt, symlink};
 use std::rt::Files;
-use std::sync::Wait;
-use std::thread::Threads;
 
 /// The file `.new` beside the disk's is made anew: what a link of that name leads to stays as it was.
-fn check_link<R: Files<File = File> + AllocGlobal + Threads + Wait + Sync>(
+fn check_link<R: Files<File = File> + AllocGlobal>(
     rt: &R,
-) -> Result<(), Error> {
+    program: Program<'_>,
+) -> Result<(), Error>
+    requires { IsAlwaysCallable program.now }
+{
     fs::write(rt, "precious", "text")?;
     symlink(rt, "precious", "kept.new")?;
-    check_status(rt, "run --disk kept ends", 0)?;
+    check_status(rt.alloc(), program, "run --disk kept ends", 0)?;
     let text = fs::read_to_string(rt, "precious")?;
     ensure!(text.as_str() == "text", "what the link led to was written");
     ensure!(
@@ -31,32 +32,41 @@ fn check_link<R: Files<File = File> + AllocGlobal + Threads + Wait + Sync>(
 }
 
 /// The disk's file keeps these rights.
-fn check_rights<R: Files<File = File> + AllocGlobal + Threads + Wait + Sync>(
+fn check_rights<R: Files<File = File> + AllocGlobal>(
     rt: &R,
+    program: Program<'_>,
     rights: u32,
-) -> Result<(), Error> {
+) -> Result<(), Error>
+    requires { IsAlwaysCallable program.now }
+{
     fs::set_permissions(rt, "kept", Permissions::from_mode(rights))?;
-    check_status(rt, "run --disk kept ends", 0)?;
+    check_status(rt.alloc(), program, "run --disk kept ends", 0)?;
     let mode = fs::metadata(rt, "kept")?.permissions().mode() & 0o777;
     ensure!(mode == rights, "the rights {rights:o} became {mode:o}");
     Ok(())
 }
 
 /// A run whose disk could not be kept ends before it begins. Where the file beside it is a folder, that stays.
-fn check_folder<R: Files<File = File> + AllocGlobal + Threads + Wait + Sync>(
+fn check_folder<R: Files<File = File> + AllocGlobal>(
     rt: &R,
-) -> Result<(), Error> {
+    program: Program<'_>,
+) -> Result<(), Error>
+    requires { IsAlwaysCallable program.now }
+{
     fs::create_dir(rt, "kept.new")?;
-    check_status(rt, "run --disk kept ends", 6)?;
+    check_status(rt.alloc(), program, "run --disk kept ends", 6)?;
     Ok(fs::remove_dir(rt, "kept.new")?)
 }
 
 /// A link that leads to a disk is replaced by a file, and what it led to stays.
-fn check_linked_disk<R: Files<File = File> + AllocGlobal + Threads + Wait + Sync>(
+fn check_linked_disk<R: Files<File = File> + AllocGlobal>(
     rt: &R,
-) -> Result<(), Error> {
+    program: Program<'_>,
+) -> Result<(), Error>
+    requires { IsAlwaysCallable program.now }
+{
     symlink(rt, "kept", "linked")?;
-    check_status(rt, "run --disk linked ends", 0)?;
+    check_status(rt.alloc(), program, "run --disk linked ends", 0)?;
     ensure!(
         fs::symlink_metadata(rt, "linked")?.is_file(),
         "the disk's file is still a link"
@@ -66,41 +76,47 @@ fn check_linked_disk<R: Files<File = File> + AllocGlobal + Threads + Wait + Sync
 
 /// While another run has the disk's file, a run is refused before it begins, durable or not. A durable run is also refused where another
 /// has the file by another path. A folder where the lock would be is in the way of both.
-fn check_lock<R: Files<File = File> + AllocGlobal + Threads + Wait + Sync>(
+fn check_lock<R: Files<File = File> + AllocGlobal>(
     rt: &R,
-) -> Result<(), Error> {
+    program: Program<'_>,
+) -> Result<(), Error>
+    requires { IsAlwaysCallable program.now }
+{
     let lock = OpenOptions::new()
         .write(true)
         .create(true)
         .open(rt, "kept.lck")?;
     ensure!(lock.try_lock().is_ok(), "the lock is had");
-    check_status(rt, "run --disk kept ends", 6)?;
-    check_status(rt, "run --durable --disk kept ends", 6)?;
-    check_status(rt, "run --disk missing ends", 0)?;
+    check_status(rt.alloc(), program, "run --disk kept ends", 6)?;
+    check_status(rt.alloc(), program, "run --durable --disk kept ends", 6)?;
+    check_status(rt.alloc(), program, "run --disk missing ends", 0)?;
     lock.unlock()?;
-    check_status(rt, "run --durable --disk kept ends", 0)?;
+    check_status(rt.alloc(), program, "run --durable --disk kept ends", 0)?;
     ensure!(
         fs::symlink_metadata(rt, "kept.lck").is_err(),
         "the lock is still there"
     );
     let file = fs::open(rt, "missing")?;
     ensure!(file.try_lock().is_ok(), "the disk's file is locked");
-    check_status(rt, "run --durable --disk missing ends", 6)?;
+    check_status(rt.alloc(), program, "run --durable --disk missing ends", 6)?;
     file.unlock()?;
-    check_status(rt, "run --durable --disk missing ends", 0)?;
+    check_status(rt.alloc(), program, "run --durable --disk missing ends", 0)?;
     fs::create_dir(rt, "kept.lck")?;
-    check_status(rt, "run --disk kept ends", 6)?;
-    check_status(rt, "run --durable --disk kept ends", 6)?;
+    check_status(rt.alloc(), program, "run --disk kept ends", 6)?;
+    check_status(rt.alloc(), program, "run --durable --disk kept ends", 6)?;
     fs::remove_dir(rt, "kept.lck")?;
     Ok(fs::remove_file(rt, "missing")?)
 }
 
 /// A durable run writes the file to which a link leads, and the link stays.
-fn check_durable_link<R: Files<File = File> + AllocGlobal + Threads + Wait + Sync>(
+fn check_durable_link<R: Files<File = File> + AllocGlobal>(
     rt: &R,
-) -> Result<(), Error> {
+    program: Program<'_>,
+) -> Result<(), Error>
+    requires { IsAlwaysCallable program.now }
+{
     symlink(rt, "kept", "linked")?;
-    check_status(rt, "run --durable --disk linked ends", 0)?;
+    check_status(rt.alloc(), program, "run --durable --disk linked ends", 0)?;
     ensure!(
         fs::symlink_metadata(rt, "linked")?.is_symlink(),
         "the disk's path is no link any more"
@@ -115,13 +131,15 @@ bench: standard input could not be read as text, or standard output not be writt
 
 /// A session writes no disk. So where its output fails, and the reason is told, the file beside the disk stays as it is: another run may
 /// be writing it.
-fn check_session<R: Files<File = File> + AllocGlobal + Threads + Wait + Sync>(
+fn check_session<R: Files<File = File> + AllocGlobal>(
     rt: &R,
-) -> Result<(), Error> {
+    program: Program<'_>,
+) -> Result<(), Error>
+    requires { IsAlwaysCallable program.now }
+{
     fs::write(rt, "kept.new", "text")?;
-    let out = Output::new(0, ErrorKind::BrokenPipe);
     let words = "debug --live --explain --disk kept ends";
-    check_output(rt, words, out, (6, NO_FILE))?;
+    check_closed(rt.alloc(), program, words, (6, NO_FILE))?;
     let text = fs::read_to_string(rt, "kept.new")?;
     ensure!(
         text.as_str() == "text",
@@ -131,12 +149,15 @@ fn check_session<R: Files<File = File> + AllocGlobal + Threads + Wait + Sync>(
 }
 
 /// An image is written to what a link leads to, and the link stays.
-fn check_image_link<R: Files<File = File> + AllocGlobal + Threads + Wait + Sync>(
+fn check_image_link<R: Files<File = File> + AllocGlobal>(
     rt: &R,
-) -> Result<(), Error> {
+    program: Program<'_>,
+) -> Result<(), Error>
+    requires { IsAlwaysCallable program.now }
+{
     symlink(rt, "made", "linked")?;
-    check_status(rt, "image linkers/gnu.elf linked", 0)?;
-    check_status(rt, "image linkers/gnu.elf whole", 0)?;
+    check_status(rt.alloc(), program, "image linkers/gnu.elf linked", 0)?;
+    check_status(rt.alloc(), program, "image linkers/gnu.elf whole", 0)?;
     ensure!(
         fs::symlink_metadata(rt, "linked")?.is_symlink(),
         "the image's path is no link any more"
@@ -153,21 +174,24 @@ fn check_image_link<R: Files<File = File> + AllocGlobal + Threads + Wait + Sync>
 }
 
 /// All these tests: the file of a kept disk with its links, rights and locks, and an image that is written through a link.
-pub fn check_kept_disk<R: Files<File = File> + AllocGlobal + Threads + Wait + Sync>(
+pub fn check_kept_disk<R: Files<File = File> + AllocGlobal>(
     rt: &R,
-) -> Result<String, Error> {
+    program: Program<'_>,
+) -> Result<String, Error>
+    requires { IsAlwaysCallable program.now }
+{
     fs::write(rt, "ends.s", ENDS)?;
-    check_status(rt, "asm ends.s ends", 0)?;
-    check_link(rt)?;
-    check_rights(rt, 0o600)?;
-    check_rights(rt, 0o444)?;
-    check_rights(rt, 0o666)?;
-    check_folder(rt)?;
-    check_linked_disk(rt)?;
-    check_lock(rt)?;
-    check_durable_link(rt)?;
-    check_session(rt)?;
-    check_image_link(rt)?;
+    check_status(rt.alloc(), program, "asm ends.s ends", 0)?;
+    check_link(rt, program)?;
+    for rights in [0o600, 0o444, 0o666] {
+        check_rights(rt, program, rights)?;
+    }
+    check_folder(rt, program)?;
+    check_linked_disk(rt, program)?;
+    check_lock(rt, program)?;
+    check_durable_link(rt, program)?;
+    check_session(rt, program)?;
+    check_image_link(rt, program)?;
     for name in ["ends.s", "ends", "kept"] {
         fs::remove_file(rt, name)?;
     }

@@ -4,10 +4,12 @@
 //! nothing, stop no other. Standard error says which they are, and the program ends with status 1.
 #![tactic(auto)]
 
+mod lost_arguments;
 mod usage;
 mod words;
 
 use anyhow::{Error, ensure};
+use program_cases::{Input, Output, Program};
 use std::env;
 use std::fs::File;
 use std::rt::Files;
@@ -15,17 +17,20 @@ use std::sync::Wait;
 use std::thread::Threads;
 use std::time::Clock;
 
-/// Runs the trials of these words, of which the first is the program's name. Without others it prints the words that there are.
+/// Runs the trials of these words, of which the first is the test program's name. Without others it prints the words that there are.
 fn run<R: AllocGlobal + Clock + Eprint + Files<File = File> + Print + Threads + Wait + Sync>(
     rt: &R,
+    program: Program<'_>,
     words: &[String],
-) -> Result<(), Error> {
+) -> Result<(), Error>
+    requires { IsAlwaysCallable program.now }
+{
     if words.len() < 2 {
-        println!(rt; "{}", usage::lines(rt.alloc())?)?;
+        println!(rt; "{}", usage::LINES)?;
     }
     let mut failed = 0usize;
     for word in words.iter().skip(1) {
-        match words::report(rt, word.as_str()) {
+        match words::report(rt, program, word.as_str()) {
             Ok(lines) => println!(rt; "{lines}")?,
             Err(error) => {
                 eprintln!(rt; "{word}: {error}")?;
@@ -39,5 +44,8 @@ fn run<R: AllocGlobal + Clock + Eprint + Files<File = File> + Print + Threads + 
 
 fn main(rt: HostRuntime) -> Result<(), Error> {
     let words: Vec<String> = env::args(&rt)?.collect(rt.alloc())?;
-    run(&rt, &words)
+    let program = |words: &[String], input: &mut Input, out: &mut Output, err: &mut Output| {
+        monitor::bench(&rt, words, input, out, err)
+    };
+    run(&rt, &program, &words)
 }

@@ -6,7 +6,7 @@ use crate::fault::Fault;
 use crate::gates::{CaseGate, Lendings};
 use crate::programs::{boot, boot_forkers};
 use crate::workers::{Worker, shares_of, workers_of};
-use crate::{by_crew, desk, faults, gated, late, nine, stealing, stranger, turns};
+use crate::{by_crew, desk, faults, gated, late, nine, stranger, turns};
 use bursts::{Bench, Blanks, Naming, Share, board_of, gather, totals_of};
 use kernel::Core;
 use pool::Pool;
@@ -26,12 +26,8 @@ pub enum Case {
     ByCrew,
     /// Two workers run both programs to their ends, and one is held until the other has stolen its loan.
     Gated,
-    /// One of two seats fetches a loan, and then the other.
-    Stealing,
     /// One turn at a desk, and then turns at the one seat until it is idle; and at the end a crew of nobody.
     Turns,
-    /// A result of another core is handed in before two workers begin.
-    Stranger,
     /// A result of another core is handed in, and the work is to stop before two workers begin.
     Idle,
     /// Two results of another core, by each of which a turn fails.
@@ -175,10 +171,8 @@ fn play_by<N: Naming + Send + Sync, D: Desk + Send, R: Threads + Wait + Sync>(
     match case {
         Case::ByCrew => by_crew::play(rt, bench, workers, desk, line),
         Case::Gated => gated::play(rt, bench, workers, line),
-        Case::Stealing => stealing::play(rt, bench, workers, line),
         Case::Turns => turns::play(rt, bench, workers, desk, line),
-        Case::Stranger => stranger::play(rt, alloc, bench, workers, line),
-        Case::Idle => stranger::play_idle(rt, alloc, bench, workers, line),
+        Case::Idle => stranger::play(rt, alloc, bench, workers, line),
         Case::Faults => faults::play(rt, alloc, bench, workers, line),
         Case::Nine => nine::play(rt, bench, workers, desk, line),
         Case::Late => late::play(rt, bench, workers, desk, line),

@@ -1,17 +1,15 @@
 //! `play_cases`: plays the cases one after the other, and gives a line for each.
 use crate::case::{Case, play};
-use crate::{failing, quanta, refusing};
+use crate::{quanta, refusing};
 use anyhow::{Error, bail};
 use std::sync::Wait;
 use std::thread::Threads;
 
 /// Each case with its name.
-const CASES: [(&str, Case); 10] = [
+const CASES: [(&str, Case); 8] = [
     ("two workers", Case::ByCrew),
     ("a worker held", Case::Gated),
-    ("a seat that steals", Case::Stealing),
     ("turns at a seat", Case::Turns),
-    ("a result of another core", Case::Stranger),
     ("idle workers", Case::Idle),
     ("two turns that fail", Case::Faults),
     ("nine processes", Case::Nine),
@@ -34,10 +32,6 @@ pub fn play_cases<R: AllocGlobal + Threads + Wait + Sync>(rt: &R) -> Result<Stri
     lines.push_str("\n")?;
     if let Err(fault) = quanta::play(rt, alloc, &mut lines) {
         bail!("a quantum: {fault}");
-    }
-    lines.push_str("\n")?;
-    if let Err(fault) = failing::play(rt, alloc, &mut lines) {
-        bail!("a completion that fails: {fault}");
     }
     lines.push_str("\n")?;
     if let Err(fault) = refusing::play(rt, alloc, &mut lines) {

@@ -23,12 +23,6 @@ const PRINTER: [u32; 10] = [
     0x00100893, 0x00000073,
 ];
 
-/// A program that does what the first does, but writes nothing to its terminal.
-const QUIET: [u32; 16] = [
-    0x06600293, 0xfe512e23, 0xffc10513, 0x00100593, 0x00200613, 0x00400893, 0x00000073, 0x04100293,
-    0xfe512e23, 0xffc10593, 0x00300613, 0x00200893, 0x00000073, 0x00000513, 0x00100893, 0x00000073,
-];
-
 /// A program that forks, and exits. So does the process that it makes.
 const FORKER: [u32; 5] = [0x00700893, 0x00000073, 0x00000513, 0x00100893, 0x00000073];
 
@@ -42,17 +36,6 @@ fn programs(alloc: Global) -> Result<Vec<Program>, AllocError>
     programs.push(Program { image, terminal: 0 })?;
     let image = Image::from_text(alloc, &PRINTER)?;
     programs.push(Program { image, terminal: 1 })?;
-    Ok(programs)
-}
-
-/// The quiet program.
-fn quiet_program(alloc: Global) -> Result<Vec<Program>, AllocError>
-    ensures count { IfOk result (λ programs. length programs.items ≡ 1) }
-    ensures terminals { IfOk result (λ programs. AllByRecursion (λ p. p.terminal < terminal_count) programs.items) }
-{
-    let mut programs = Vec::new(alloc);
-    let image = Image::from_text(alloc, &QUIET)?;
-    programs.push(Program { image, terminal: 0 })?;
     Ok(programs)
 }
 
@@ -98,13 +81,6 @@ pub fn boot_on(alloc: Global, bytes: &[u8]) -> Result<Core, Fault> {
         Ok(device) => Ok(Core::boot(alloc, device, programs, Vec::new(alloc))?),
         Err(_) => Err(Fault::OutOfMemory),
     }
-}
-
-/// A core of the quiet program.
-pub fn boot_quiet(alloc: Global) -> Result<Core, Fault> {
-    let programs = quiet_program(alloc)?;
-    let device = device(alloc)?;
-    Ok(Core::boot(alloc, device, programs, Vec::new(alloc))?)
 }
 
 /// A core of eight programs that fork.

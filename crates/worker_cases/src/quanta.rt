@@ -37,7 +37,7 @@ fn play_one<R: Threads + Wait + Sync>(
     requires { 1 ≤ quantum }
 {
     let mut out = Vec::new(alloc);
-    let core = Run::new(alloc, settings(quantum, None), &mut out).to_end(rt, core)?;
+    let core = Run::new(alloc, settings(quantum), &mut out).to_end(rt, core)?;
     let longest = longest_turn(&core);
     Ok(write!(line, "; {quantum}: {longest}")?)
 }

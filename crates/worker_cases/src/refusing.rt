@@ -121,7 +121,7 @@ fn run_on<R: Threads + Wait + Sync, F: DiskFile + Send + Drop>(
     file: F,
     out: &mut Vec<u8>,
 ) -> Result<Core, Fault> {
-    let mut run = Run::new(alloc, settings(QUANTUM, None), out).on_file(Some(file));
+    let mut run = Run::new(alloc, settings(QUANTUM), out).on_file(Some(file));
     Ok(run.to_end(rt, core)?)
 }
 

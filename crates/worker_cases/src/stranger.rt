@@ -8,27 +8,9 @@ use std::alloc::Global;
 use std::sync::{Mutex, Wait};
 use std::thread::Threads;
 
-/// A result of another core is handed in before these workers begin. Says the number of the crew's fault, 0 for none, and whether
-/// the work is to stop.
-pub fn play<N: Naming + Send + Sync, R: Threads + Wait + Sync>(
-    rt: &R,
-    alloc: Global,
-    bench: &Mutex<Bench<'_, N>>,
-    workers: &mut [Worker<'_, '_, '_, N>],
-    line: &mut String,
-) -> Result<(), Fault> {
-    hand_in_another(rt, alloc, workers)?;
-    let fault = crew_fault(rt, workers);
-    let stopped = is_stopped(rt, bench);
-    Ok(write!(
-        line,
-        "a result of another core: fault {fault}, stopped {stopped}"
-    )?)
-}
-
 /// The work is to stop before these workers begin, so that they are idle, and a result of another core is handed in. Says the
 /// number of the crew's fault, 0 for none.
-pub fn play_idle<N: Naming + Send + Sync, R: Threads + Wait + Sync>(
+pub fn play<N: Naming + Send + Sync, R: Threads + Wait + Sync>(
     rt: &R,
     alloc: Global,
     bench: &Mutex<Bench<'_, N>>,

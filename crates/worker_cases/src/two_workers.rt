@@ -5,15 +5,15 @@ use crate::fault::Fault;
 use executor::Settings;
 use kernel::Core;
 
-/// Two workers with this quantum, where one completion fails, if one is named. What the first terminal shows is written out.
-pub fn settings(quantum: u32, fail: Option<u32>) -> Settings
+/// Two workers with this quantum. What the first terminal shows is written out.
+pub fn settings(quantum: u32) -> Settings
     requires { 1 ≤ quantum }
 {
     Settings {
         workers: 2,
         quantum,
         terminal: Some(0),
-        fail,
+        fail: None,
     }
 }
 
