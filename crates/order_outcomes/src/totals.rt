@@ -31,13 +31,6 @@ impl Totals {
         }
     }
 
-    /// Prints how many states, calls and outcomes there were.
-    pub fn print<O: Write>(self, findings: &Findings<'_>, out: &mut O) -> io::Result<()> {
-        let Totals { states, calls, .. } = self;
-        let outcomes = findings.count();
-        writeln!(out, "{states} states, {calls} calls, {outcomes} outcomes")
-    }
-
     /// Why not all was explored, if it was not: states are left, or else a process runs on.
     fn why_not_all(self, findings: &Findings<'_>) -> Option<ExplorationFault>
         ensures { result ≡ unexplored self.left self.depth findings.now.runs_on }
@@ -50,6 +43,20 @@ impl Totals {
             Some(outcome) => Some(ExplorationFault::RunsOn { outcome }),
             None => None,
         }
+    }
+
+    /// Prints how many states, calls and outcomes there were, and whether all was explored.
+    pub fn print<O: Write>(self, findings: &Findings<'_>, out: &mut O) -> io::Result<()> {
+        let Totals { states, calls, .. } = self;
+        let outcomes = findings.count();
+        let how_far = match self.why_not_all(findings) {
+            None => "complete",
+            Some(_) => "not complete",
+        };
+        writeln!(
+            out,
+            "{states} states, {calls} calls, {outcomes} outcomes, {how_far}"
+        )
     }
 
     /// Refuses a search that did not explore all.

@@ -8,7 +8,6 @@ use call_lines::call_at;
 use formats::Reg;
 use kernel::{Core, Machine};
 use kernel_model::Carrier;
-use memory::CopyFault;
 use state_search::{Key, StateDigest};
 use std::alloc::{AllocError, Global};
 
@@ -77,6 +76,17 @@ fn file_read(core: &Core) -> &[u8] {
     }
 }
 
+/// So many bytes of a machine's memory, whatever its rights to them: a process may execute bytes that it may not read.
+fn bytes_at(alloc: Global, machine: &Machine, at: u32, n: u32) -> Result<Vec<u8>, AllocError> {
+    let mut bytes = Vec::new(alloc);
+    for k in 0..n {
+        if let Some(byte) = machine.space().byte(at.wrapping_add(k)) {
+            bytes.push(byte)?;
+        }
+    }
+    Ok(bytes)
+}
+
 impl Asked {
     /// What a process asks for.
     pub fn by(core: &Core, pid: u32) -> Asked {
@@ -103,15 +113,9 @@ impl Asked {
             return Ok(());
         }
         let n = stored_by(self.call, machine.reg(Reg::new(10)));
-        match machine.space().copy_in(alloc, self.at, n) {
-            Ok(bytes) => {
-                digest.bytes(bytes.as_slice());
-                Ok(())
-            }
-            // The process may not read them either.
-            Err(CopyFault::Fault(_)) => Ok(()),
-            Err(CopyFault::OutOfMemory) => Err(AllocError),
-        }
+        let stored = bytes_at(alloc, machine, self.at, n)?;
+        digest.bytes(stored.as_slice());
+        Ok(())
     }
 }
 
