@@ -106,15 +106,15 @@ impl<R: Files + AllocGlobal, O: Write, E: Write> Printer<'_, '_, '_, '_, '_, R, 
         self.findings.judge(number, outcome)
     }
 
-    /// Tells how far it has come, where so many states of a level are left. What was printed goes out before it.
-    fn tell(&mut self, left: usize) {
+    /// Tells how far it has come, with so many states to be gone on from. What was printed goes out before it.
+    fn tell(&mut self, frontier: usize) {
         if self.progress.is_due(self.rt) {
             let _ = self.out.flush();
             self.progress.tell(ProgressCount {
                 what: "states",
                 done: self.done,
-                left: left as u64,
-                part: "level",
+                left: frontier as u64,
+                to_do: "at the frontier",
             });
         }
     }
@@ -140,12 +140,12 @@ impl<R: Files + AllocGlobal, O: Write, E: Write> Listener for Printer<'_, '_, '_
             calls,
             mut over,
             visited: _visited,
-            left,
+            frontier,
         } = heard;
         self.note(states, calls.as_slice())?;
         self.over.append(&mut over)?;
         self.done = self.done.saturating_add(states.len() as u64);
-        self.tell(left);
+        self.tell(frontier);
         Ok(())
     }
 

@@ -28,8 +28,9 @@ pub struct Heard<'a, 'p> {
     pub over: Vec<Outcome>,
     /// The states, where they are visited.
     pub visited: Vec<VisitedState>,
-    /// How many states of the level are left.
-    pub left: usize,
+    /// How many states are to be gone on from, as far as is known: those left of the level, and those reached from it, before equal ones are
+    /// dropped.
+    pub frontier: usize,
 }
 
 /// Who is told what a search of runs finds.
@@ -131,7 +132,7 @@ impl<'p, L: Listener> Moves for RunSearch<'_, 'p, '_, L> {
                     calls,
                     over,
                     visited,
-                    left: later.len(),
+                    frontier: later.len().saturating_add(next.len()),
                 },
             )?;
             rest = later;

@@ -25,13 +25,13 @@ pub trait StateTaker {
     /// Why no more are taken.
     type Fault: From<Fault> + From<AllocError> + Drop;
 
-    /// Takes the next states, which are in the order in which they were found. So many of the level are left then. Threads may share the
-    /// work.
+    /// Takes the next states, which are in the order in which they were found. As far as is known, so many are to be gone on from then. Threads
+    /// may share the work.
     fn take<R: Threads + Sync>(
         &mut self,
         rt: &R,
         states: Vec<VisitedState>,
-        left: usize,
+        frontier: usize,
     ) -> Result<(), Self::Fault>
         requires { IsSync R.row };
 }
@@ -98,13 +98,13 @@ impl<T: StateTaker> Listener for Visiting<'_, T> {
         let Heard {
             over,
             visited,
-            left,
+            frontier,
             ..
         } = heard;
         for outcome in over {
             self.note(outcome);
         }
-        self.taker.take(rt, visited, left)
+        self.taker.take(rt, visited, frontier)
     }
 
     fn end_level(&mut self) -> Result<(), T::Fault> {

@@ -22,9 +22,9 @@ pub struct ProgressCount {
     pub what: &'static str,
     /// How many are done.
     pub done: u64,
-    /// How many are left of the part that is worked on, which has this name.
+    /// How many are still to be done, as far as that is known, and in which words.
     pub left: u64,
-    pub part: &'static str,
+    pub to_do: &'static str,
 }
 
 /// The line that is told.
@@ -40,12 +40,12 @@ impl fmt::Display for Line {
             what,
             done,
             left,
-            part,
+            to_do,
         } = self.count;
         let a_second = self.a_second;
         write!(
             f,
-            "bench: {done} {what}, {a_second} a second, {left} left of this {part}"
+            "bench: {done} {what}, {a_second} a second, {left} {to_do}"
         )
     }
 }

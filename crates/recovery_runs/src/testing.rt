@@ -172,7 +172,7 @@ impl<'a, R: Files + AllocGlobal, E: Write> Tester<'a, R, E> {
                 what: "recoveries",
                 done,
                 left: batch.jobs.len().saturating_sub(ran) as u64,
-                part: "batch",
+                to_do: "left of this batch",
             });
         }
     }

@@ -37,14 +37,14 @@ struct Handing<'a, 'e, R, E> {
 }
 
 impl<R: Files + AllocGlobal, E: Write> Handing<'_, '_, R, E> {
-    /// Tells how far the search has come, where so many states of a level are left.
-    fn tell(&mut self, left: usize) {
+    /// Tells how far the search has come, with so many states to be gone on from.
+    fn tell(&mut self, frontier: usize) {
         if self.progress.is_due(self.rt) {
             self.progress.tell(ProgressCount {
                 what: "states",
                 done: self.done,
-                left: left as u64,
-                part: "level",
+                left: frontier as u64,
+                to_do: "at the frontier",
             });
         }
     }
@@ -58,9 +58,9 @@ impl<R: Files + AllocGlobal, E: Write> StateTaker for Handing<'_, '_, R, E> {
         &mut self,
         rt: &T,
         states: Vec<VisitedState>,
-        left: usize,
+        frontier: usize,
     ) -> Result<(), Stop> {
-        let mut left = left.saturating_add(states.len());
+        let mut frontier = frontier.saturating_add(states.len());
         for state in states {
             let VisitedState {
                 calls,
@@ -76,8 +76,8 @@ impl<R: Files + AllocGlobal, E: Write> StateTaker for Handing<'_, '_, R, E> {
             };
             self.orders.take(rt, state)?;
             self.done = self.done.saturating_add(1);
-            left = left.saturating_sub(1);
-            self.tell(left);
+            frontier = frontier.saturating_sub(1);
+            self.tell(frontier);
         }
         Ok(())
     }
