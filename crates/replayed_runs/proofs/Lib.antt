@@ -1,3 +1,4 @@
+mod Ended
 mod Feeding
 mod Footprints
 mod Outputs

@@ -1,5 +1,5 @@
 //! A run that is replayed, call by call.
-ghost use Rattle.std.specs.Prelude.{◌≡◌, [], true, false, length, IfOk, OnOk};
+ghost use Rattle.std.specs.Prelude.{◌≡◌, ◌<◌, ◌≤◌, ℕ, [], true, false, length, IfOk, OnOk};
 ghost use Rattle.kernel_model.specs.Answers.{Kernel, now, with_event};
 ghost use Rattle.kernel_model.specs.declared.event.Event.TheVariants.{Enter};
 ghost use Rattle.order_laws.specs.Moves.{calls, label_in, writes_some};
@@ -113,6 +113,26 @@ impl Replay {
         ensures { result ≡ length (now self.now.core).sync.processes }
     {
         last_process(&self.core)
+    }
+
+    /// Whether a process has ended: it makes no call any more.
+    fn has_ended(&self, pid: u32) -> bool
+        ensures there { result ≡ true → 0 < pid }
+        ensures idle { result ≡ true → writes_some (label_in (seen_of self.now.core) (Enter pid)) ≡ false }
+    {
+        self.core.tables().processes.status(pid).is_some()
+    }
+
+    /// The last process that has not ended, or 0 where all have. Those after it make no call any more.
+    pub fn last_alive(&self) -> u32
+        ensures within { result ≤ length (seen_of self.now.core).sync.processes }
+        ensures idle { (p : ℕ) → result < p → writes_some (label_in (seen_of self.now.core) (Enter p)) ≡ false }
+    {
+        let mut last = self.last_process();
+        while self.has_ended(last) {
+            last -= 1;
+        }
+        last
     }
 
     /// Whether some process stands at a sync, which it is to make.
