@@ -3,6 +3,7 @@ mod BootDisks
 mod Gathered
 mod Joining
 mod JoiningParts
+mod Keeping
 mod Keying
 mod Nexts
 mod Shares

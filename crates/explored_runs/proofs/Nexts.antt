@@ -51,6 +51,20 @@ module _ (n : ℕ) (s : Seen) where
   all_working zero is = absurd (false≢true is)
   all_working (suc p) is = let there = works_there s.sync (suc p) is in is_working (length s.sync.processes) p (omega (arith, there)) is
 
+  -- after the last one that may work none does
+  pub none_after : (last k : ℕ) → last ≤ k → ((p : ℕ) → last < p → works p ≡ false) → working n s k ≡ working n s last
+  none_after last zero high idle = ap (λ j. working n s j) (let same : zero ≡ last = omega (arith, high) in same)
+  none_after last (suc k) high idle = by (none_after last k) (cases_lt last (suc k))
+    where
+      by : (last ≤ k → ((p : ℕ) → last < p → works p ≡ false) → working n s k ≡ working n s last) → (last < suc k) ⊎ (suc k ≤ last) → working n s (suc k) ≡ working n s last
+      by before (inl lower) = working_still k (idle (suc k) lower) ∙ append-nil (working n s k) ∙ before (omega (arith, lower)) idle
+      by before (inr same) = ap (λ j. working n s j) (let is : suc k ≡ last = omega (arith, same, high) in is)
+
+  -- where none works, it is over
+  pub all_idle : ((p : ℕ) → 0 < p → works p ≡ false) → IsOver (calls n) s
+  all_idle idle zero = refl
+  all_idle idle (suc p) = idle (suc p) (omega arith)
+
   -- where none of them can be made, it is over
   pub is_over : working n s (length s.sync.processes) ≡ [] → IsOver (calls n) s
   is_over none p = by (works p) refl
@@ -94,6 +108,11 @@ empty_of (x ∷ xs) n size is = absurd (false≢true (sym (ne_eqb n 0 (λ none. 
 
 pub not_empty : {X : Type 0} (xs : List X) (n : ℕ) → n ≡ length xs → (n == 0) ≡ false → xs ≡ [] → ⊥
 not_empty {X = X} xs n size is none = false≢true (sym is ∙ eq-eqb n 0 (size ∙ ap (λ (ys : List X). length ys) none))
+
+-- nor is one where an element was put to others
+pub more_not_empty : {X : Type 0} (xs : List X) (x : X) → xs ++ x ∷ [] ≡ [] → ⊥
+more_not_empty [] x none = cc
+more_not_empty (y ∷ xs) x none = cc
 
 -- where no run was answered, no call does anything
 pub none_asked : (n : ℕ) (s : Seen) (ps : List ℕ) (rs : List (Reached (Vec ℕ))) → ways rs ≡ with_each ps (working n s (length s.sync.processes)) → rs ≡ []

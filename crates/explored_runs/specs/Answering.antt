@@ -18,6 +18,8 @@ use Rattle.explored_runs.specs.declared.runs.After.{After}
 use Rattle.explored_runs.specs.declared.runs.Next.{Next}
 use Rattle.explored_runs.specs.declared.runs.Next.TheVariants.{More, Over}
 use Rattle.explored_runs.specs.declared.runs.Runs.{Runs}
+use Rattle.explored_runs.specs.declared.runs.Tries.{Tries}
+use Rattle.explored_runs.specs.declared.runs.Tries.TheVariants as tries
 use Rattle.explored_runs.specs.declared.runs.Tried.{Tried}
 use Rattle.explored_runs.specs.declared.runs.Tried.TheVariants as tried
 use Rattle.explored_runs.specs.declared.visited.VisitedState.{VisitedState}
@@ -49,6 +51,11 @@ abbrev pub HasTriedKey : Runs → Tried → Type 0
 HasTriedKey r tried.Idle = Unit {0}
 HasTriedKey r (tried.Made x) = HasKeyOf r x.state.items x.key
 HasTriedKey r (tried.Private x) = HasKeyOf r x.state.items x.key
+
+-- and those that were tried
+abbrev pub HaveTriedKeys : Runs → Tries → Type 0
+HaveTriedKeys r (tries.Private x) = HasKeyOf r x.state.items x.key
+HaveTriedKeys r (tries.Each xs) = HaveKeys r xs.items
 
 -- the second stands where the first does
 pub record IsCopyOf (x y : Replay) : Type 0 where
@@ -86,6 +93,11 @@ with_each ps qs = map (λ q. ps ++ q ∷ []) qs
 -- the calls of runs that were answered
 abbrev pub ways : List (Reached (Vec ℕ)) → List (List ℕ)
 ways rs = map (λ r. r.state.items) rs
+
+-- what trying the calls of the processes up to the k-th came to, after a run of calls ps that comes to s
+abbrev pub AreTried : ℕ → Seen → List ℕ → ℕ → Tries → Type 0
+AreTried n s ps k (tries.Private r) = (p : ℕ) × IsPrivate s p × (r.state.items ≡ ps ++ p ∷ [])
+AreTried n s ps k (tries.Each rs) = ways rs.items ≡ with_each ps (working n s k)
 
 -- These runs were answered after one of calls ps that comes to s: that of one private call more, or those of each call that does something, in the
 -- order of their processes.

@@ -3,6 +3,7 @@ ghost use Rattle.std.specs.Prelude.{◌<◌, List, IfOk};
 ghost use Rattle.disk_model.specs.declared.change.NamedFile.{NamedFile};
 ghost use Rattle.explored_runs.specs.Answering.{AreAfter, AreJoined, StandOn};
 
+use crate::checkpoints::{Checkpoints, common_calls_of};
 use crate::runs::{After, Runs};
 use faults::Fault;
 use state_search::Found;
@@ -10,15 +11,19 @@ use std::alloc::Global;
 use std::thread;
 use std::thread::Threads;
 
-/// What comes after each state of a share, in its order. The programs are booted once for it. The fault is that of the first state that has
-/// one.
+/// What comes after each state of a share, in its order. Each run is replayed from a checkpoint. The fault is that of the first
+/// state that has one.
 fn share_of(runs: &Runs<'_>, share: &[Found<Vec<u32>>]) -> Result<Vec<After>, Fault>
     ensures { IfOk result (λ afters. (files : List NamedFile) → StandOn runs.now files → AreAfter runs.now files share.now afters.items) }
 {
-    let start = runs.begin()?;
+    let common = common_calls_of(runs.alloc, share)?;
+    let mut checkpoints = Checkpoints::new(runs.alloc);
     let mut afters = Vec::with_capacity(runs.alloc, share.len())?;
     for found in share {
-        afters.push(runs.after(&start, found.state.as_slice())?)?;
+        let calls = found.state.as_slice();
+        let later = common.as_slice().get(afters.len()..).unwrap_or(&[]);
+        let replay = checkpoints.replay(runs, calls, later)?;
+        afters.push(runs.after(calls, replay)?)?;
     }
     Ok(afters)
 }

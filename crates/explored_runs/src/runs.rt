@@ -1,7 +1,7 @@
 //! Runs as a search sees them. A run is the processes whose calls lead to it, and is replayed on a copy of a core that was booted.
-ghost use Rattle.std.specs.Prelude.{◌≡◌, ◌∷◌, ◌++◌, [], List, true, false, IfOk};
+ghost use Rattle.std.specs.Prelude.{◌≡◌, ◌<◌, ◌-◌, ◌∷◌, ◌++◌, [], List, length, true, false, IfOk};
 ghost use Rattle.disk_model.specs.declared.change.NamedFile.{NamedFile};
-ghost use Rattle.explored_runs.specs.Answering.{HasTriedKey, HaveKeys, IsCopyOf, IsNext, IsRunOf, IsTried, StandOn, boot_in, calls_by_next, is_idle, reached_by_next};
+ghost use Rattle.explored_runs.specs.Answering.{AreTried, HasTriedKey, HaveKeys, HaveTriedKeys, IsCopyOf, IsNext, IsRunOf, IsTried, StandOn, boot_in, calls_by_next, is_idle, reached_by_next, ways, with_each, working};
 ghost use Rattle.replayed_runs.specs.Replays.{seen_after_calls, seen_of};
 ghost use Rattle.explored_runs.specs.RunSearches.{IsFirstRun};
 ghost use Rattle.replayed_runs.specs.StateKeys.{IsKeyOf};
@@ -64,6 +64,15 @@ enum Tried {
     Made(Reached<Vec<u32>>),
     /// The same, of a private call.
     Private(Reached<Vec<u32>>),
+}
+
+/// What came of trying the calls of some processes after a run.
+#[derive(Drop)]
+enum Tries {
+    /// This run, of a private call.
+    Private(Reached<Vec<u32>>),
+    /// The runs of those that do something.
+    Each(Vec<Reached<Vec<u32>>>),
 }
 
 /// These calls, and one more.
@@ -179,14 +188,13 @@ impl Runs<'_> {
         Ok(Some(VisitedState::of(self.alloc, calls, replay)?))
     }
 
-    /// What is found of the run of these calls, where this is the run of none.
-    pub fn after(&self, start: &Replay, calls: &[u32]) -> Result<After, Fault>
-        requires { IsRunOf self.now [] start.now }
+    /// What is found of the run of these calls, which was replayed.
+    pub fn after(&self, calls: &[u32], replay: Replay) -> Result<After, Fault>
+        requires { IsRunOf self.now calls.now replay }
         ensures next { IfOk result (λ after. (files : List NamedFile) → StandOn self.now files
             → IsNext self.now.instructions (seen_after_calls self.now.instructions (boot_in self.now files) calls.now) calls.now after.next) }
         ensures keys { IfOk result (λ after. HaveKeys self.now (reached_by_next after.next)) }
     {
-        let replay = self.replay_on(start, calls)?;
         let visited = self.visited(calls, &replay)?;
         let is_at_sync = replay.is_at_sync();
         let next = self.next(calls, replay)?;
@@ -208,18 +216,20 @@ impl Runs<'_> {
         }
     }
 
-    /// The runs after one more call: after a private one alone, if there is one, or after each that does something. It is over where none
-    /// does. Each call is made on a copy of this run, which is that of these calls.
-    fn next(&self, calls: &[u32], replay: Replay) -> Result<Next, Fault>
-        requires { replay.limit ≡ self.now.instructions }
-        ensures next { IfOk result (IsNext self.now.instructions (seen_of replay.core) calls.now) }
-        ensures keys { IfOk result (λ next. IsRunOf self.now calls.now replay → HaveKeys self.now (reached_by_next next)) }
+    /// Tries the call of each process up to this one, on copies of the run of these calls. After a private one no other is tried.
+    fn try_each(&self, calls: &[u32], replay: &Replay, most: u32) -> Result<Tries, Fault>
+        requires { replay.now.limit ≡ self.now.instructions }
+        ensures tried { IfOk result (AreTried self.now.instructions (seen_of replay.now.core) calls.now most) }
+        ensures keys { IfOk result (λ tries. IsRunOf self.now calls.now replay.now → HaveTriedKeys self.now tries) }
     {
-        let mut copy = replay.try_clone(self.alloc)?;
         let mut reached = Vec::new(self.alloc);
+        if most == 0 {
+            return Ok(Tries::Each(reached));
+        }
+        let mut copy = replay.try_clone(self.alloc)?;
         let mut is_used = false;
-        for place in 0..replay.last_process() {
-            copy = self.fresh_copy(&replay, copy, is_used)?;
+        for place in 0..most {
+            copy = self.fresh_copy(replay, copy, is_used)?;
             is_used = false;
             match self.try_call(&mut copy, calls, place + 1)? {
                 Tried::Idle => {}
@@ -227,12 +237,63 @@ impl Runs<'_> {
                     reached.push(run)?;
                     is_used = true;
                 }
-                Tried::Private(run) => return Ok(Next::More(alone(self.alloc, run)?)),
+                Tried::Private(run) => return Ok(Tries::Private(run)),
             }
         }
-        if !reached.is_empty() {
-            return Ok(Next::More(reached));
+        Ok(Tries::Each(reached))
+    }
+
+    /// The runs after one more call, where those before the last process came to these: they, and that of the last one. Its call is tried
+    /// on the run itself. If it is private, its run alone.
+    fn with_last(
+        &self,
+        calls: &[u32],
+        replay: Replay,
+        reached: Vec<Reached<Vec<u32>>>,
+        last: u32,
+    ) -> Result<Next, Fault>
+        requires limit { replay.limit ≡ self.now.instructions }
+        requires some { 0 < last }
+        requires asked { ways reached.items ≡ with_each calls.now (working self.now.instructions (seen_of replay.core) (last - 1)) }
+        requires none_after { working self.now.instructions (seen_of replay.core) (length (seen_of replay.core).sync.processes) ≡ working self.now.instructions (seen_of replay.core) last }
+        ensures next { IfOk result (IsNext self.now.instructions (seen_of replay.core) calls.now) }
+        ensures keys { IfOk result (λ next. IsRunOf self.now calls.now replay → HaveKeys self.now reached.items → HaveKeys self.now (reached_by_next next)) }
+    {
+        let mut replay = replay;
+        let mut reached = reached;
+        match self.try_call(&mut replay, calls, last)? {
+            Tried::Idle => {
+                if reached.is_empty() {
+                    return Ok(Next::Over(outcome_of(self.alloc, calls, &mut replay)?));
+                }
+                Ok(Next::More(reached))
+            }
+            Tried::Made(own) => {
+                reached.push(own)?;
+                Ok(Next::More(reached))
+            }
+            Tried::Private(own) => Ok(Next::More(alone(self.alloc, own)?)),
         }
-        Ok(Next::Over(outcome_of(self.alloc, calls, &mut copy)?))
+    }
+
+    /// The runs after one more call: after a private one alone, if there is one, or after each that does something. It is over where none
+    /// does. This run is that of these calls.
+    fn next(&self, calls: &[u32], replay: Replay) -> Result<Next, Fault>
+        requires { replay.limit ≡ self.now.instructions }
+        ensures next { IfOk result (IsNext self.now.instructions (seen_of replay.core) calls.now) }
+        ensures keys { IfOk result (λ next. IsRunOf self.now calls.now replay → HaveKeys self.now (reached_by_next next)) }
+    {
+        let last = replay.last_alive();
+        if last == 0 {
+            let mut replay = replay;
+            return Ok(Next::Over(outcome_of(self.alloc, calls, &mut replay)?));
+        }
+        match self.try_each(calls, &replay, last - 1)? {
+            Tries::Private(run) => Ok(Next::More(alone(self.alloc, run)?)),
+            Tries::Each(reached) => {
+                let next = self.with_last(calls, replay, reached, last)?;
+                Ok(next)
+            }
+        }
     }
 }

@@ -8,15 +8,18 @@ use Rattle.explored_runs.proofs.Answered.{next_taken, one_more}
 use Rattle.explored_runs.proofs.crew.share_of.Goals as goal
 
 pub loop-found-preserved : goal.loop-found-preserved
-loop-found-preserved c = λ files stand.
-    let r = c.args.runs.now in
-    let f = c.found-item.result in
-    let next = rw c.as_slice.ensures.value at c.in_ok-after.ensures.next files stand in
-    let more = one_more r files _ c.loop-found.afters.items f c.in_ok-after.field-0 (c.loop-found.invariant files stand) (next, c.in_ok-after.ensures.keys) in
-    let taken = next_taken c.args.share.now c.loop-found.found-index f c.loop-found-test.true c.found-item.is in
-    rw (c.in_ok-push.ensures.items, taken) more
+loop-found-preserved c = record {
+  answered = λ files stand.
+      let r = c.args.runs.now in
+      let f = c.found-item.result in
+      let next = rw c.as_slice-calls.ensures.value at c.in_ok-after.ensures.next files stand in
+      let more = one_more r files _ c.loop-found.afters.items f c.in_ok-after.field-0 (c.loop-found.invariant.answered files stand) (next, c.in_ok-after.ensures.keys) in
+      let taken = next_taken c.args.share.now c.loop-found.found-index f c.loop-found-test.true c.found-item.is in
+      rw (c.in_ok-push.ensures.items, taken) more;
+  kept = c.in_ok-replay.ensures.kept;
+}
 
 pub returns : goal.returns
 returns c = λ files stand.
     subst (λ (fs : List (Found (Vec ℕ))). AreAfter c.args.runs.now files fs c.loop-found.afters.items) (take_all c.loop-found.found-index c.args.share.now c.loop-found-test.false)
-    (c.loop-found.invariant files stand)
+    (c.loop-found.invariant.answered files stand)

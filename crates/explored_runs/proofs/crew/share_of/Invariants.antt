@@ -2,7 +2,11 @@
 use Rattle.std.proofs.Common.{List, take}
 use Rattle.disk_model.specs.declared.change.NamedFile.{NamedFile}
 use Rattle.explored_runs.specs.Answering.{AreAfter, StandOn}
+use Rattle.explored_runs.specs.Checkpoints.{AreCheckpoints}
 use Rattle.explored_runs.proofs.crew.share_of.Given as goal
 
 abbrev pub invariant-loop-found : goal.invariant-loop-found
-invariant-loop-found l = (files : List NamedFile) → StandOn l.runs files → AreAfter l.runs files (take l.found-index l.share) l.afters.items
+invariant-loop-found l = record {
+  answered : (files : List NamedFile) → StandOn l.runs files → AreAfter l.runs files (take l.found-index l.share) l.afters.items;
+  kept : AreCheckpoints l.runs l.checkpoints.kept.items;
+}

@@ -11,10 +11,10 @@ pub returns-clause-next : goal.returns-clause-next
 returns-clause-next c = λ files stand.
     let r = c.args.self.now in
     let calls = c.args.calls.now in
-    let run = c.in_ok-replay.ensures in
-    let same = one_files r.programs.now.disk c.in_ok-replay.replay.core.boot.files files run.files stand in
+    let run = c.requires in
+    let same = one_files r.programs.now.disk c.args.replay.core.boot.files files run.files stand in
     let seen = run.seen ∙ ap (λ (fs : List NamedFile). seen_after_calls r.instructions (boot_in r fs) calls) same in
     subst (λ (s : Seen). IsNext r.instructions s calls c.in_ok-next.next) seen c.in_ok-next.ensures.next
 
 pub returns-clause-keys : goal.returns-clause-keys
-returns-clause-keys c = c.in_ok-next.ensures.keys c.in_ok-replay.ensures
+returns-clause-keys c = c.in_ok-next.ensures.keys c.requires

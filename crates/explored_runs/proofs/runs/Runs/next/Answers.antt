@@ -1,76 +1,17 @@
--- One process more was asked, and in the end all.
-use Rattle.std.proofs.Common.{arith, rules, ◌≡◌, ◌∙◌, ◌++◌, ◌∷◌, [], ◌+◌, ℕ, suc, List, length, ap, inr, subst, sym}
-use Rattle.std.specs.Global.{Vec}
-use Rattle.std.specs.Vec.{vec_len}
-use Rattle.std.proofs.lemmas.Bool.{false≢true}
-use Rattle.kernel_model.specs.State.{SyncState}
-use Rattle.order_laws.specs.Moves.{Seen}
-use Rattle.order_laws.proofs.Outcomes.{tells}
-use Rattle.state_search.specs.declared.moves.Reached.{Reached}
-use Rattle.explored_runs.specs.Answering.{HasTriedKey, IsTried, is_idle, ways, with_each, working}
+-- The processes up to the last that has not ended were asked, and those after it do nothing.
+use Rattle.std.proofs.Common.{◌<◌, ◌-◌, ℕ, length, subst}
+use Rattle.explored_runs.specs.Answering.{AreTried, HaveTriedKeys}
 use Rattle.replayed_runs.specs.Replays.{seen_of}
-use Rattle.explored_runs.specs.declared.runs.Tried.{Tried}
-use Rattle.explored_runs.proofs.Keying.{copy_is, keys_more}
-use Rattle.explored_runs.proofs.Nexts.{asked_idle, asked_made, empty_of, none_asked, not_empty, tried_in}
+use Rattle.explored_runs.specs.declared.runs.Tries.{Tries}
+use Rattle.explored_runs.proofs.Nexts.{all_idle, none_after}
 use Rattle.explored_runs.proofs.runs.Runs.next.Goals as goal
-use Rattle.explored_runs.proofs.runs.Runs.next.Goals.{in-Idle, in-Made+in_ok-push-in-Made}
 
-pub loop-place-preserved : goal.loop-place-preserved
-loop-place-preserved c =
+pub with_last-requires-clause-asked : goal.with_last-requires-clause-asked
+with_last-requires-clause-asked c =
     let n = c.args.self.now.instructions in
-    let s = seen_of c.args.replay.core in
-    let ps = c.args.calls.now in
-    let rs = c.loop-place.reached.items in
-    let k = c.loop-place.place in
-    let asked = c.loop-place.invariant.asked in
-    let stands = c.in_ok-copy-2.ensures in
-    let next : k + 1 ≡ suc k = omega arith in
-    let tried = tried_in n c.args.replay c.in_ok-copy-2.copy ps (k + 1) c.in_ok-try_call.field-0 c.requires stands c.in_ok-try_call.ensures.tried in
-    record {
-      asked = elim c.match-branch-4.branch [
-        | in-Idle w ↦
-            let idle = subst (λ (t : Tried). IsTried n s ps (k + 1) t) w.in-Idle.is tried in
-            rw w.reached-is (asked_idle n s ps rs k asked (k + 1) next idle)
-        | in-Made+in_ok-push-in-Made w ↦
-            let made = subst (λ (t : Tried). IsTried n s ps (k + 1) t) w.in-Made.is tried in
-            rw (w.reached-is, w.in_ok-push-in-Made.ensures.items) (asked_made n s ps rs k asked (k + 1) next w.in-Made.run' made.0 made.1)
-      ];
-      keys = elim c.match-branch-4.branch [
-        | in-Idle w ↦ λ run. rw w.reached-is (c.loop-place.invariant.keys run)
-        | in-Made+in_ok-push-in-Made w ↦ λ run.
-            let copied = copy_is c.args.self.now ps c.args.replay c.in_ok-copy-2.copy run stands in
-            let key = subst (λ (t : Tried). HasTriedKey c.args.self.now t) w.in-Made.is (c.in_ok-try_call.ensures.key copied) in
-            rw (w.reached-is, w.in_ok-push-in-Made.ensures.items) (keys_more c.args.self.now rs w.in-Made.run' (c.loop-place.invariant.keys run) key)
-      ];
-      copy = elim c.match-branch-4.branch [
-        | in-Idle w ↦ λ _.
-            let idle = ap is_idle w.in-Idle.is in
-            record { seen = c.in_ok-try_call.ensures.idle idle ∙ stands.seen; boot = c.in_ok-try_call.ensures.boot idle ∙ stands.boot; limit = c.in_ok-try_call.ensures.limit idle ∙ stands.limit }
-        | in-Made+in_ok-push-in-Made w ↦ λ unused. absurd (false≢true (sym unused ∙ w.is_used-is))
-      ];
-    }
+    subst (λ (t : Tries). AreTried n (seen_of c.args.replay.core) c.args.calls.now (c.last_alive-last.result - 1) t) c.in-Each.is c.in_ok-run.ensures.tried
 
-pub returns-then-not-is_empty-clause-next : goal.returns-then-not-is_empty-clause-next
-returns-then-not-is_empty-clause-next c =
-    let n = c.args.self.now.instructions in
+pub with_last-requires-clause-none_after : goal.with_last-requires-clause-none_after
+with_last-requires-clause-none_after c =
     let s = seen_of c.args.replay.core in
-    let ps = c.args.calls.now in
-    let rs = c.loop-place.reached.items in
-    let last : c.loop-place.place ≡ c.last_process-place-end.result = omega (arith, c.loop-place-test.false, c.loop-place.auto.place-end) in
-    let many : c.loop-place.place ≡ length s.sync.processes = last ∙ c.last_process-place-end.ensures ∙ sym (ap (λ (u : SyncState). length u.processes) (tells c.args.replay.core.boot c.args.replay.core.history).sync) in
-    let all = subst (λ k. ways rs ≡ with_each ps (working n s k)) many c.loop-place.invariant.asked in
-    let size : vec_len c.loop-place.reached ≡ length rs = search rules in
-    (inr all, not_empty rs (vec_len c.loop-place.reached) size (sym c.is_empty.ensures ∙ c.if-not-is_empty.true))
-
-pub returns-clause-next : goal.returns-clause-next
-returns-clause-next c =
-    let n = c.args.self.now.instructions in
-    let s = seen_of c.args.replay.core in
-    let ps = c.args.calls.now in
-    let rs = c.loop-place.reached.items in
-    let last : c.loop-place.place ≡ c.last_process-place-end.result = omega (arith, c.loop-place-test.false, c.loop-place.auto.place-end) in
-    let many : c.loop-place.place ≡ length s.sync.processes = last ∙ c.last_process-place-end.ensures ∙ sym (ap (λ (u : SyncState). length u.processes) (tells c.args.replay.core.boot c.args.replay.core.history).sync) in
-    let all = subst (λ k. ways rs ≡ with_each ps (working n s k)) many c.loop-place.invariant.asked in
-    let size : vec_len c.loop-place.reached ≡ length rs = search rules in
-    let none = empty_of rs (vec_len c.loop-place.reached) size (sym c.is_empty.ensures ∙ c.if-not-is_empty.false) in
-    (none_asked n s ps rs all none, c.in_ok-outcome_of.ensures)
+    none_after c.args.self.now.instructions s c.last_alive-last.result (length s.sync.processes) c.last_alive-last.ensures.within c.last_alive-last.ensures.idle

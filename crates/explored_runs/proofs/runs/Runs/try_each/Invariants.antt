@@ -2,7 +2,7 @@
 use Rattle.std.proofs.Common.{◌≡◌, false}
 use Rattle.explored_runs.specs.Answering.{HaveKeys, IsCopyOf, IsRunOf, ways, with_each, working}
 use Rattle.replayed_runs.specs.Replays.{seen_of}
-use Rattle.explored_runs.proofs.runs.Runs.next.Given as goal
+use Rattle.explored_runs.proofs.runs.Runs.try_each.Given as goal
 
 abbrev pub invariant-loop-place : goal.invariant-loop-place
 invariant-loop-place l = record {
