@@ -1,5 +1,5 @@
 //! What a run had promised when a crash came.
-ghost use Rattle.std.specs.Prelude.{◌≡◌, ◌≤◌, ◌↔◌, ◌++◌, IfOk, IsTrue, length};
+ghost use Rattle.std.specs.Prelude.{◌≡◌, ◌≤◌, ◌↔◌, ◌++◌, IfOk, IsTrue, length, true};
 ghost use Rattle.kernel_model.specs.Answers.{now};
 ghost use Rattle.kernel_model.specs.Shown.{shown as shown_of, printed as given_to};
 ghost use Rattle.kernel_model.specs.Views.{contents};
@@ -27,6 +27,16 @@ impl Model for Promise {
     ghost view = { λ t. t.shown.items };
 }
 
+/// Whether bytes are these two parts, one after the other.
+fn is_joined(whole: &[u8], first: &[u8], second: &[u8]) -> bool
+    ensures { result ≡ true → whole.now ≡ first.now ++ second.now }
+{
+    match whole.strip_prefix(first) {
+        Some(rest) => rest == second,
+        None => false,
+    }
+}
+
 impl Promise {
     fn new(alloc: Global, earlier: &[u8], now: &[u8]) -> Result<Promise, AllocError>
         ensures { IfOk result (λ promise. promise ≡ earlier.now ++ now.now) }
@@ -42,6 +52,13 @@ impl Promise {
         ensures { IfOk result (λ promise. promise ≡ earlier.now ++ shown_of (now core.now) 0) }
     {
         Promise::new(alloc, earlier, core.shown(0))
+    }
+
+    /// Whether it is that of a run so far, as `of` makes it.
+    pub fn is_of(&self, earlier: &[u8], core: &Core) -> bool
+        ensures { result ≡ true → self.now ≡ earlier.now ++ shown_of (now core.now) 0 }
+    {
+        is_joined(self.shown.as_slice(), earlier, core.shown(0))
     }
 
     /// The promise of a run whose output waits for nothing: what earlier boots showed, and all that was printed.

@@ -2,29 +2,22 @@
 ghost use Rattle.std.specs.Prelude.{◌≡◌, true, IfSome};
 ghost use Rattle.disk_model.specs.Storage.{is_quiet};
 
-use crash_outcomes::{FILLS, Fill, Moment, PassedOver, moment_of};
+use crash_outcomes::{FILLS, Moment, PassedOver, moment_of};
 use crash_points::{
-    Course, CrashPlace, Mirror, Playing, Promise, RunEnd, Stop, Taker, Told, differ_by_fill,
+    Course, CrashPlace, Crashed, Mirror, Playing, Promise, RunEnd, Stop, Taker, Told,
 };
 use exec_runs::Ending;
-use files::FileTable;
 use kernel::{Answer, Core, Event, SimDisk};
 use scripts::{EventText, Setup, Visitor, bytes_text, process_of};
 use std::rt::Files;
+use std::sync::Arc;
 use std::thread::Threads;
-
-/// The files that a crash with this fill leaves.
-#[derive(Drop)]
-struct Crashed {
-    fill: Fill,
-    files: FileTable,
-}
 
 /// What crashes at a moment leave.
 #[derive(Drop)]
 struct Crashes {
     moment: Moment,
-    promise: Promise,
+    promise: Arc<Promise>,
     left: Vec<Crashed>,
 }
 
@@ -40,6 +33,8 @@ pub struct Trier<'a, R> {
     played: String,
     /// What terminal 0 showed in the boots before.
     shown: Vec<u8>,
+    /// The promise of the last moment, if there was one.
+    promise: Option<Arc<Promise>>,
     pub passed_over: PassedOver,
     /// What crashes left that was not handed out yet.
     found: Vec<Crashes>,
@@ -51,10 +46,11 @@ impl<'a, R: Files + AllocGlobal> Trier<'a, R> {
         Trier {
             rt,
             setup,
-            mirror: Mirror::new(),
+            mirror: Mirror::new(rt.alloc()),
             boots: 0,
             played: String::new(rt.alloc()),
             shown: Vec::new(rt.alloc()),
+            promise: None,
             passed_over: PassedOver::NONE,
             found: Vec::new(rt.alloc()),
         }
@@ -66,24 +62,25 @@ impl<'a, R: Files + AllocGlobal> Trier<'a, R> {
         played
     }
 
-    /// What a crash leaves now, with each fill. The core itself goes on.
-    fn left_by(&mut self, core: &Core) -> Result<Vec<Crashed>, Stop> {
-        let alloc = self.rt.alloc();
-        let mut left = Vec::new(alloc);
-        for fill in FILLS {
-            let files = self.mirror.files_after(alloc, core, fill)?;
-            left.push(Crashed { fill, files })?;
-            if !differ_by_fill(core) {
-                break;
+    /// The promise of the run so far. Where nothing more was shown it is that of the last moment, and what crashes left then is known.
+    fn promise(&mut self, core: &Core) -> Result<Arc<Promise>, Stop> {
+        let shown = self.shown.as_slice();
+        if let Some(promise) = &self.promise {
+            if promise.is_of(shown, core) {
+                return Ok(Arc::try_clone(promise)?);
             }
         }
-        Ok(left)
+        let alloc = self.rt.alloc();
+        let promise = Arc::new(alloc, Promise::of(alloc, shown, core)?)?;
+        self.promise = Some(Arc::try_clone(&promise)?);
+        self.mirror.forget_last();
+        Ok(promise)
     }
 
     /// Tries a crash now.
     fn try_crashes(&mut self, core: &Core) -> Result<(), Stop> {
-        let promise = Promise::of(self.rt.alloc(), self.shown.as_slice(), core)?;
-        let left = self.left_by(core)?;
+        let promise = self.promise(core)?;
+        let left = self.mirror.left_by(self.rt.alloc(), core)?;
         self.found.push(Crashes {
             moment: moment_of(self.boots, core),
             promise,
@@ -98,7 +95,7 @@ impl<'a, R: Files + AllocGlobal> Trier<'a, R> {
     {
         let core = self.setup.boot(self.rt, left)?;
         self.boots = self.boots.saturating_add(1);
-        self.mirror = Mirror::new();
+        self.mirror = Mirror::new(self.rt.alloc());
         self.try_crashes(&core)?;
         Ok(core)
     }
@@ -115,12 +112,10 @@ fn hand_out<T: Taker>(crashes: &Crashes, taker: &mut T) -> Result<(), Stop> {
     let mut others = FILLS.len() as u64;
     for crashed in &crashes.left {
         let place = CrashPlace::Filled(crashes.moment, crashed.fill);
-        taker.take(
-            crashed.files.list(),
-            &crashes.promise,
-            place,
-            Told::nothing(),
-        )?;
+        match &crashed.files {
+            Some(files) => taker.take(files.list(), &crashes.promise, place, Told::nothing())?,
+            None => taker.again(1),
+        }
         others = others.saturating_sub(1);
     }
     taker.again(others);

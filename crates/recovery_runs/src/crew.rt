@@ -3,8 +3,9 @@ use crate::no_files::NoFiles;
 use crate::pending::{Job, Pending};
 use crate::recovery::RecoveryProgram;
 use crate::running::{Ran, run_recovery};
+use crash_points::SpareDisk;
 use faults::Fault;
-use std::alloc::Global;
+use std::alloc::{AllocError, Global};
 use std::thread;
 use std::thread::Threads;
 
@@ -16,40 +17,71 @@ pub struct Work<'a> {
     pub jobs: &'a [Job],
 }
 
-/// What came of one thread's share, the last recovery first, and the fault that cut it short.
+/// One thread's share: the recoveries at the places `first`, `first + step`, and so on, and the disk on which it runs them.
+#[derive(Drop)]
+struct Task {
+    first: usize,
+    step: usize,
+    spare: SpareDisk,
+}
+
+/// What came of one thread's share, the last recovery first, the fault that cut it short, and its disk.
 #[derive(Drop)]
 struct Share {
     ran: Vec<Ran>,
     fault: Option<Fault>,
+    spare: SpareDisk,
 }
 
-/// Runs the recoveries at the places `first`, `first + step`, and so on, up to the first fault.
+/// Runs the recoveries of a task, up to the first fault.
 fn run_each(
     alloc: Global,
     work: Work<'_>,
-    first: usize,
-    step: usize,
+    task: &mut Task,
     ran: &mut Vec<Ran>,
 ) -> Result<(), Fault> {
     let host = NoFiles { alloc };
-    let mut place = first;
+    let mut place = task.first;
     for _ in 0..work.jobs.len() {
         let Some(job) = work.jobs.get(place) else {
             break;
         };
         if let Some(disk) = work.disks.get(job.disk) {
-            ran.push(run_recovery(&host, work.program, disk, job.chain.as_slice())?)?;
+            let chain = job.chain.as_slice();
+            ran.push(run_recovery(&host, work.program, disk, chain, &mut task.spare)?)?;
         }
-        place = place.saturating_add(step);
+        place = place.saturating_add(task.step);
     }
     Ok(())
 }
 
-fn share_of(alloc: Global, work: Work<'_>, first: usize, step: usize) -> Share {
+fn share_of(alloc: Global, work: Work<'_>, mut task: Task) -> Share {
     let mut ran = Vec::new(alloc);
-    let fault = run_each(alloc, work, first, step, &mut ran).err();
+    let fault = run_each(alloc, work, &mut task, &mut ran).err();
     ran.reverse();
-    Share { ran, fault }
+    let Task { spare, .. } = task;
+    Share { ran, fault, spare }
+}
+
+/// A task for each of so many threads, with a disk that was used before, if there is one.
+fn tasks_of(
+    alloc: Global,
+    threads: usize,
+    spares: &mut Vec<SpareDisk>,
+) -> Result<Vec<Task>, AllocError> {
+    let mut tasks = Vec::with_capacity(alloc, threads)?;
+    for first in 0..threads {
+        let spare = match spares.pop() {
+            Some(spare) => spare,
+            None => SpareDisk::new(),
+        };
+        tasks.push(Task {
+            first,
+            step: threads,
+            spare,
+        })?;
+    }
+    Ok(tasks)
 }
 
 impl Share {
@@ -63,25 +95,30 @@ impl Share {
     }
 }
 
-/// Runs recoveries by so many threads. Gives what came of each, in their order. The fault is that of the first that has one.
+/// Runs recoveries by so many threads, on disks that were used before. Gives what came of each, in their order. The fault is that of the
+/// first that has one.
 pub fn run_all<R: Threads + Sync>(
     rt: &R,
     alloc: Global,
     work: Work<'_>,
     threads: usize,
+    spares: &mut Vec<SpareDisk>,
 ) -> Result<Vec<Ran>, Fault> {
     let threads = threads.min(work.jobs.len()).max(1);
-    let mut shares: Vec<Share> = thread::map_indices(
+    let tasks = tasks_of(alloc, threads, spares)?;
+    let mut shares: Vec<Share> = thread::map_vec(
         rt,
-        alloc,
-        threads,
-        &|first| { share_of(alloc, work, first, threads) },
+        tasks,
+        &|task| { share_of(alloc, work, task) },
     )?;
     let mut all = Vec::with_capacity(alloc, work.jobs.len())?;
     for place in 0..work.jobs.len() {
         if let Some(share) = shares.get_mut(place % threads) {
             all.push(share.take()?)?;
         }
+    }
+    for Share { spare, .. } in shares {
+        spares.push(spare)?;
     }
     Ok(all)
 }

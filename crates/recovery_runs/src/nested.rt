@@ -1,8 +1,8 @@
 //! Crashes of a recovery.
 use crate::asked::Asked;
 use crate::running::Ran;
-use crash_outcomes::{FILLS, Fill, Moment, moment_of, outcome_of};
-use crash_points::{CrashPlace, CrashPoint, Mirror, Telling, differ_by_fill, digest_of_files};
+use crash_outcomes::{FILLS, Moment, moment_of, outcome_of};
+use crash_points::{CrashPlace, CrashPoint, Crashed, Mirror, Telling, digest_of_files};
 use faults::Fault;
 use files::FileList;
 use kernel::{Answer, Core, Event};
@@ -39,7 +39,7 @@ impl Nested {
     pub fn new(alloc: Global, before: u64, is_tried: bool) -> Nested {
         Nested {
             alloc,
-            mirror: Mirror::new(),
+            mirror: Mirror::new(alloc),
             before,
             is_tried,
             known: HashSet::new(alloc),
@@ -81,11 +81,14 @@ impl Nested {
         Ok(())
     }
 
-    fn try_crash(&mut self, core: &Core, moment: Moment, fill: Fill) -> Result<(), Fault> {
-        let alloc = self.alloc;
-        let files = self.mirror.files_after(alloc, core, fill)?;
-        let digest = digest_of_files(alloc, files.list())?;
-        let known = String::from_str(alloc, digest.as_str())?;
+    /// Keeps what a crash left, if no earlier one did.
+    fn note(&mut self, moment: Moment, crashed: Crashed) -> Result<(), Fault> {
+        let Crashed { fill, files } = crashed;
+        let Some(files) = files else {
+            return Ok(());
+        };
+        let digest = digest_of_files(self.alloc, files.list())?;
+        let known = String::from_str(self.alloc, digest.as_str())?;
         if self.known.insert(known)? {
             self.keep(files.list(), CrashPlace::Filled(moment, fill), digest)?;
         }
@@ -108,11 +111,8 @@ impl Visitor for Nested {
         }
         let moment = moment_of(self.before.saturating_add(1), core);
         self.crashes = self.crashes.saturating_add(FILLS.len() as u64);
-        for fill in FILLS {
-            self.try_crash(core, moment, fill)?;
-            if !differ_by_fill(core) {
-                break;
-            }
+        for crashed in self.mirror.left_by(self.alloc, core)? {
+            self.note(moment, crashed)?;
         }
         Ok(())
     }

@@ -3,7 +3,6 @@ use crash_points::Promise;
 use elf32::write;
 use exec_files::LoadedProgram;
 use exec_reports::Family;
-use files::FileList;
 use scripts::Setup;
 use std::alloc::{AllocError, Global};
 
@@ -49,15 +48,9 @@ impl Recovery {
 }
 
 impl RecoveryProgram {
-    /// What a run of it begins with: the files that a crash left, and the promise on its tape.
-    pub fn setup(
-        &self,
-        alloc: Global,
-        files: &FileList,
-        promise: &Promise,
-    ) -> Result<Setup, AllocError> {
+    /// What a run of it begins with beside the files that a crash left: the promise on its tape.
+    pub fn setup(&self, alloc: Global, promise: &Promise) -> Result<Setup, AllocError> {
         let mut setup = Setup::new(alloc);
-        setup.files = files.try_clone()?;
         setup.push_binary(Vec::from_slice(alloc, self.file.as_slice())?)?;
         setup.push_tape(Some(0), Some(promise.tape(alloc)?))?;
         Ok(setup)

@@ -1,13 +1,16 @@
 //! Runs the recovery on a disk.
+ghost use Rattle.std.specs.Prelude.{◌≡◌, true, IfSome};
+ghost use Rattle.disk_model.specs.Storage.{is_quiet};
+
 use crate::asked::Asked;
 use crate::failure::Failure;
 use crate::nested::{Nested, NestedCrash};
 use crate::pending::Pending;
 use crate::recovery::RecoveryProgram;
-use crash_points::{CrashPoint, play_some, play_to_end};
+use crash_points::{CrashPoint, SpareDisk, play_some, play_to_end};
 use exec_reports::status_of_run;
 use faults::Fault;
-use kernel::Core;
+use kernel::{Core, SimDisk};
 use scripts::Setup;
 use std::rt::Files;
 
@@ -35,33 +38,41 @@ fn crashed<R: Files + AllocGlobal>(
     setup.boot(rt, Some(core.halt(point.fill().bytes())))
 }
 
-/// The core after the crashes of a chain.
+/// The core after the crashes of a chain, booted first on this disk, or on one with the files that are set up.
 fn reach<R: Files + AllocGlobal>(
     rt: &R,
     setup: &mut Setup,
+    first: Option<SimDisk>,
     chain: &[CrashPoint],
     limit: u64,
-) -> Result<Core, Fault> {
-    let mut core = setup.boot(rt, None)?;
+) -> Result<Core, Fault>
+    requires { IfSome first (λ device. is_quiet device ≡ true) }
+{
+    let mut core = setup.boot(rt, first)?;
     for point in chain {
         core = crashed(rt, setup, core, point, limit)?;
     }
     Ok(core)
 }
 
-/// Runs the recovery on a disk after the crashes of a chain, and tries its crashes where more may come.
+/// Runs the recovery on a disk after the crashes of a chain, and tries its crashes where more may come. The files are put on a disk that
+/// was used before.
 pub fn run_recovery<R: Files + AllocGlobal>(
     rt: &R,
     program: &RecoveryProgram,
     disk: &Pending,
     chain: &[CrashPoint],
+    spare: &mut SpareDisk,
 ) -> Result<Ran, Fault> {
-    let mut setup = program.setup(rt.alloc(), &disk.files, &disk.promise)?;
-    let mut core = reach(rt, &mut setup, chain, program.limit)?;
+    let mut setup = program.setup(rt.alloc(), &disk.promise)?;
+    let device = spare.take(rt.alloc(), &disk.files)?;
+    let mut core = reach(rt, &mut setup, Some(device), chain, program.limit)?;
     let before = chain.len() as u64;
     let mut nested = Nested::new(rt.alloc(), before, before < u64::from(program.nested));
     let ending = play_to_end(&mut nested, &mut core, program.limit)?;
-    Ok(nested.into_ran(status_of_run(&core, ending)))
+    let ran = nested.into_ran(status_of_run(&core, ending));
+    spare.put_back(core.halt(&[]));
+    Ok(ran)
 }
 
 /// Runs a recovery that fails once more, and gives what there is to tell of it.
@@ -71,8 +82,9 @@ pub fn failure_of<R: Files + AllocGlobal>(
     disk: &Pending,
     chain: Vec<CrashPoint>,
 ) -> Result<Failure, Fault> {
-    let mut setup = program.setup(rt.alloc(), &disk.files, &disk.promise)?;
-    let mut core = reach(rt, &mut setup, chain.as_slice(), program.limit)?;
+    let mut setup = program.setup(rt.alloc(), &disk.promise)?;
+    setup.files = disk.files.try_clone()?;
+    let mut core = reach(rt, &mut setup, None, chain.as_slice(), program.limit)?;
     let mut nested = Nested::new(rt.alloc(), 0, false);
     let ending = play_to_end(&mut nested, &mut core, program.limit)?;
     Ok(Failure {

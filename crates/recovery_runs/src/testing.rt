@@ -11,11 +11,11 @@ use crate::recovery::RecoveryProgram;
 use crate::running::{Ran, failure_of};
 use crate::sights::{Sight, Sights};
 use crate::tried::Tried;
-use crash_points::{CrashPlace, Promise, Stop, Taker, Told, digest_of_files};
+use crash_points::{CrashPlace, Promise, SpareDisk, Stop, Taker, Told, digest_of_files};
 use faults::Fault;
 use files::FileList;
 use progress::{Progress, ProgressCount};
-use std::alloc::AllocError;
+use std::alloc::{AllocError, Global};
 use std::collections::HashSet;
 use std::io::Write;
 use std::rt::Files;
@@ -24,8 +24,19 @@ use std::thread::Threads;
 /// The most disks on which the recovery is run together. The first batches are smaller, so that a first failure is found soon.
 const MOST_TOGETHER: usize = 256;
 
+/// A block of so many bytes is taken and freed before the first recovery: 4 MiB, as two disks have.
+const BLOCK: usize = 4_194_304;
+
 /// How many recoveries each thread runs before it is told how far it has come.
 const TAKEN: usize = 16;
+
+/// Has the host's allocator keep memory from one recovery to the next. Each takes and frees blocks of 2 MiB. The allocator of the GNU C
+/// library hands free memory at the end of its heap back to the system, and takes it again later, page by page. It keeps up to twice the
+/// largest block that was ever mapped by itself and freed. So such a block is taken here and freed at once; nobody writes to it. Where
+/// there is no memory for it, or the allocator is another one, nothing changes.
+fn keep_freed_memory(alloc: Global) {
+    let _block: Result<Vec<u8>, AllocError> = Vec::with_capacity(alloc, BLOCK);
+}
 
 /// What runs the recovery on disks, on each once with each promise. Of those that it cannot tell apart it is run on the first.
 #[derive(Drop)]
@@ -34,6 +45,8 @@ pub struct Tester<'a, R, E> {
     program: &'a RecoveryProgram,
     effort: Effort,
     progress: Progress<'a, E>,
+    /// The disks on which threads ran recoveries before.
+    spares: Vec<SpareDisk>,
     tried: Tried,
     sights: Sights,
     disks: HashSet<String>,
@@ -62,11 +75,13 @@ impl<'a, R: Files + AllocGlobal, E: Write> Tester<'a, R, E> {
         progress: Progress<'a, E>,
     ) -> Tester<'a, R, E> {
         let alloc = rt.alloc();
+        keep_freed_memory(alloc);
         Tester {
             rt,
             program,
             effort,
             progress,
+            spares: Vec::new(alloc),
             tried: Tried::new(alloc),
             sights: Sights::new(alloc),
             disks: HashSet::new(alloc),
@@ -188,7 +203,7 @@ impl<'a, R: Files + AllocGlobal, E: Write> Tester<'a, R, E> {
                 disks: batch.disks.as_slice(),
                 jobs,
             };
-            let mut ran = run_all(rt, alloc, work, threads)?;
+            let mut ran = run_all(rt, alloc, work, threads, &mut self.spares)?;
             all.append(&mut ran)?;
             self.tell(batch, all.len());
         }
