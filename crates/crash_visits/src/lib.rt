@@ -1,7 +1,7 @@
 //! Visits a run, and hands what its crashes leave to a `Taker`.
 //!
 //! A `Trier` visits the run, or, by other rules of commits, a `WindowTrier`, whose windows have `WindowLists`. `explore` and `explore_by` print
-//! what crashes leave. Only safety is proved.
+//! what crashes leave. Beside safety it is proved up to which bound all was tried (`WindowLists::bound`).
 #![tactic(auto)]
 
 mod deeds;

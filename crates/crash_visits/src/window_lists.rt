@@ -1,4 +1,7 @@
 //! `WindowLists`: which lists of files a crash may leave in windows, by another rule than bench's.
+ghost use Rattle.std.specs.Prelude.{◌≡◌, Some, None, if◌then◌else◌};
+ghost use Rattle.std.specs.HashSet.{hash_set_len};
+
 use crate::deeds::deeds_of;
 use crash_lists::{CrashModel, Enumeration, Listed, Window};
 use crash_points::{CrashPlace, ListedChanges, Promise, Stop, Taker, Told, digest_of_files};
@@ -99,7 +102,12 @@ impl WindowLists {
     }
 
     /// Up to which bound all was handed out, where these were all windows or not.
-    pub fn bound(&self, is_over: bool) -> Bound {
+    pub fn bound(&self, is_over: bool) -> Bound
+        ensures over { result.is_over ≡ is_over }
+        ensures full { result.is_full ≡ self.now.is_full }
+        ensures apart { result.apart ≡ (if self.now.is_cut then Some self.now.rule.apart else None) }
+        ensures too_many { result.too_many ≡ hash_set_len self.now.too_many }
+    {
         Bound {
             is_over,
             is_full: self.is_full,

@@ -1,5 +1,6 @@
 //! The visitor that finds what a crash may leave by another rule than bench's.
-ghost use Rattle.std.specs.Prelude.{◌≡◌, true, IfSome};
+ghost use Rattle.std.specs.Prelude.{◌≡◌, true, IfSome, Some, None, if◌then◌else◌};
+ghost use Rattle.std.specs.HashSet.{hash_set_len};
 ghost use Rattle.disk_model.specs.Storage.{is_quiet};
 
 use crate::window_lists::{Bound, Closed, Rule, WindowLists};
@@ -59,7 +60,12 @@ impl<'a, R: Files + AllocGlobal> WindowTrier<'a, R> {
     }
 
     /// Up to which bound all was tried.
-    pub fn bound(&self) -> Bound {
+    pub fn bound(&self) -> Bound
+        ensures over { result.is_over ≡ self.now.is_over }
+        ensures full { result.is_full ≡ self.now.lists.is_full }
+        ensures apart { result.apart ≡ (if self.now.lists.is_cut then Some self.now.lists.rule.apart else None) }
+        ensures too_many { result.too_many ≡ hash_set_len self.now.lists.too_many }
+    {
         self.lists.bound(self.is_over)
     }
 

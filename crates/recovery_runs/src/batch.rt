@@ -1,6 +1,7 @@
 //! `Batch`: disks on which the recovery is run together, and again after its own crashes.
-ghost use Rattle.std.specs.Prelude.{◌≡◌, None, IfOk, MatchOption, OnOk, position, slice_get, vec_len};
-ghost use Rattle.recovery_runs.specs.Batches.{has_failed};
+ghost use Rattle.std.specs.Prelude.{◌≡◌, ◌<◌, ℕ, None, IfOk, MatchOption, OnOk, position, slice_get, slice_index_or, vec_len};
+ghost use Rattle.recovery_runs.specs.Batches.{IsFirst, has_failed};
+ghost use Rattle.recovery_runs.specs.declared.pending.Job.{Job};
 
 use crate::asked::Asked;
 use crate::nested::NestedCrash;
@@ -29,8 +30,11 @@ pub struct Batch {
     pub failed: Option<Job>,
 }
 
-/// The recoveries that are run first: one on each disk.
-fn first_jobs(alloc: Global, disks: usize) -> Result<Vec<Job>, AllocError> {
+/// The recoveries that are run first: one on each disk, in their order.
+fn first_jobs(alloc: Global, disks: usize) -> Result<Vec<Job>, AllocError>
+    ensures count { IfOk result (λ jobs. vec_len jobs ≡ disks) }
+    ensures each { IfOk result (λ jobs. (disk : ℕ) (d : Job) → disk < disks → IsFirst disk (slice_index_or jobs.items disk d)) }
+{
     let mut jobs = Vec::with_capacity(alloc, disks)?;
     for disk in 0..disks {
         jobs.push(Job {
@@ -69,7 +73,9 @@ fn nth(jobs: Vec<Job>, place: usize) -> Option<Job>
 impl Batch {
     /// Before any recovery.
     pub fn new(alloc: Global, disks: Vec<Pending>, seen: Vec<Seen>) -> Result<Batch, AllocError>
-        ensures { IfOk result (λ batch. batch.failed ≡ None) }
+        ensures failed { IfOk result (λ batch. batch.failed ≡ None) }
+        ensures count { IfOk result (λ batch. vec_len batch.jobs ≡ vec_len disks) }
+        ensures each { IfOk result (λ batch. (disk : ℕ) (d : Job) → disk < vec_len disks → IsFirst disk (slice_index_or batch.jobs.items disk d)) }
     {
         Ok(Batch {
             jobs: first_jobs(alloc, disks.len())?,
