@@ -38,7 +38,8 @@ SHOWN_LINES = 20
 # What the copy and its proofs take of a disk, and with how much left it counts as full, in bytes.
 ROOM, FULL = 3_000_000_000, 1_000_000_000
 BEGINNING = (
-    "bench: proving what is not proved yet; from nothing that takes about 50 minutes on four processors, 90 on two, and 5 GB of disk\n"
+    "bench: proving what is not proved yet; from nothing that takes about 50 minutes on four processors, 90 on two, and 5 GB of disk;\n"
+    "bench: on a host that others use too it takes up to twice as long\n"
     "bench: ./bench --unproved WORDS.. runs the program without proofs, in one to three minutes"
 )
 
