@@ -26,6 +26,8 @@ EXIT, WRITE, READ, OPEN, CLOSE, PIPE, FORK, WAIT, SEEK, RENAME = 1, 2, 3, 4, 5, 
 # How a file is opened: to be read, to be written, and empty, where it is made if it is not there.
 TO_READ, TO_WRITE, EMPTY = 0, 1, 2
 TERMINAL = 1
+# How often a key is set in the rows of recoveries.
+SETS = 25, 100, 200, 400
 # Data of all programs: the descriptors of pipes stand at `ends`, a letter at each of `letter0` to `letter5`. The name `cur` follows `new`, as a
 # call of rename wants it.
 DATA = "\n        .data\nends: .space 32\nbuffer: .space 8\nother: .space 8\n" + "".join(
