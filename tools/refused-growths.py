@@ -3,7 +3,7 @@
 of `growths.cores`, each run with another growth of memory refused. WHAT may be another call to the host. With names only these rows.
 
 A run has to come out as the one in which nothing is refused, or to end for the refusal: status 5 and `bench: out of memory`, or 6 and
-`bench: input or output failed`. What it printed is then a beginning, and each file is as before or whole. The last line says how many
+`bench: input or output failed`. What it printed and said is then a beginning, and each file is as before or whole. The last line says how many
 runs there were; how many ended for the refusal, how many came out undisturbed, and how many otherwise. Where there are such, each is
 told, and the status is 1. `docs/TESTING.md` says why this stands beside the merge gate."""
 import argparse
@@ -345,7 +345,8 @@ class Sweep:
         if self.end == HOST:
             # A host that fails may cut short what is said, the image of `asm`, and the new file beside a disk.
             return not is_run or all(name.endswith((".new", ".lck")) for name in torn)
-        return not torn and (err.endswith(line) if is_run or self.is_exec else err == line)
+        # What was said before is a beginning of what is said without a refusal; threads of a run, and calls told one by one, mix it.
+        return not torn and err.endswith(line) and (is_run or self.is_exec or err_wanted.startswith(err[: -len(line)]))
 
     def kind_of_command(self, found, wanted, is_run):
         if self.is_same(found, wanted, is_run):
