@@ -6,7 +6,8 @@
 A script (2,000 where no number is given) has one or two programs, which make, write, empty, rename and remove files, and lines that
 cut groups, complete writes or let them fail, drain, and crash. For each crash that `bench crashes` tries, `bench replay` runs the
 lines before it, a line `crash FILL` and a line `files`. Both are compared with a small model of files and of the disk below, which
-also knows the bytes of the files, and so the digests that `bench replay` does not print.
+also knows the bytes of the files, and so the digests that `bench replay` does not print. `bench crashes --recover` has to try as many crashes,
+and to find as many disks.
 
 BENCH names the program, or else it is ./bench of this repository. The last line says how many scripts and crashes were compared; at
 the first difference the script, and what came of it, is printed, and the status is 1."""
@@ -21,6 +22,8 @@ import tempfile
 TOP = os.path.realpath(f"{os.path.dirname(os.path.realpath(__file__))}/..")
 BENCH = os.environ.get("BENCH", f"{TOP}/bench")
 FILLS = ("00", "01", "7fff", "-")
+# A recovery that ends with status 0 on each disk.
+RECOVERY = ("--jobs", "1", "--nested", "0", "--recover", f"{TOP}/examples/sum.s")
 NAMES = (b"a", b"b", b"c.new", b"d:1")
 # The changes of a group, and the bytes of a piece of its record.
 GROUP, PIECE = 64, 4096
@@ -365,12 +368,12 @@ class Case:
             self.start_again()
 
 
-def ran(folder, name, lines, command):
+def ran(folder, name, lines, *command):
     """Returns what the program prints of a script of these lines."""
     path = f"{folder}/{name}"
     with open(path, "w", encoding="ascii") as file:
         file.write("\n".join(lines))
-    done = subprocess.run([BENCH, command, path], capture_output=True, text=True, check=False)
+    done = subprocess.run([BENCH, *command, path], capture_output=True, text=True, check=False)
     os.remove(path)
     if done.returncode:
         return [f"status {done.returncode}", done.stderr]
@@ -384,6 +387,12 @@ def difference(seed):
         came = ran(folder, "script", case.lines, "crashes")
         if came != case.printed:
             return 0, case.lines, case.printed, came
+        # A recovery is tried at the end of each boot too, and on each list of files once, whatever their order.
+        disks = len({tuple(sorted(it.split()[1:])) for it in case.outcomes})
+        wanted = f"{len(case.crashes) + len(FILLS) * case.boot} crashes, {disks} disks, "
+        came = ran(folder, "script", case.lines, "crashes", *RECOVERY)
+        if not came[-1].startswith(wanted):
+            return 0, case.lines, [wanted], came
         for lines, wanted in case.crashes:
             came = ran(folder, "script", lines, "replay")[-len(wanted) :]
             if came != wanted:
