@@ -17,7 +17,7 @@ use crate::room::prepare;
 use crate::running::Running;
 use crate::system::System;
 use crate::task::Task;
-use crate::tasks::enter_place;
+use crate::tasks::{enter_place, rest_ended};
 use disk_model::{checkpoints_fit, made_files_change};
 use footprints::footprints_grow;
 use kernel_model::{Answer, Event, Outcome, Refused, tables_keep_their_limits};
@@ -95,6 +95,7 @@ impl Running {
         let task = &mut self.tasks[place];
         let (outcome, child) = enter_task(&mut self.history, &mut self.system, pid, stop, task)?;
         join(&mut self.tasks, child);
+        rest_ended(self.system.alloc, &mut self.tasks, place);
         Ok(entered(outcome))
     }
 }

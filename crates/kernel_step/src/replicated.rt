@@ -114,6 +114,21 @@ impl ReplicatedMachine {
         }
     }
 
+    /// The state from which it came becomes room for a copy, if nobody else looks at it. Takes no memory.
+    pub fn reuse(&mut self, began: Arc<Machine>)
+        ensures { self.new ≡ self.old }
+    {
+        self.machine.reuse(began);
+    }
+
+    /// The machine of a process that has ended rests, as `Machine::rest` says, and its replica goes.
+    pub fn rest(&mut self, alloc: Global, like: Option<&Machine>)
+        ensures { self.new ≡ self.old }
+    {
+        self.machine.rest(alloc, like);
+        let _ = self.replica.take();
+    }
+
     /// Another machine takes this one's place. Takes no memory.
     pub fn put(&mut self, machine: Machine)
         ensures { self.new ≡ machine }

@@ -20,7 +20,7 @@ use crate::room::prepare;
 use crate::running::Running;
 use crate::system::System;
 use crate::task::Task;
-use crate::tasks::place_of;
+use crate::tasks::{place_of, rest_ended};
 use crate::turn::{note_own, reserve};
 use crate::whereabouts::Whereabouts;
 use disk_model::{checkpoints_fit, made_files_change};
@@ -48,7 +48,7 @@ fn is_of_loan(task: &Task, done: &Done, is_known: bool) -> bool
 }
 
 /// The process is back with the machine of this result. The state with which it was lent, which the task no longer shares, becomes
-/// the machine's replica, or room for a copy. Where the process ends it goes, since no loan comes after this one.
+/// the machine's replica, or room for a copy. Where the process ends it is room alone, which goes once the machine rests.
 fn come_back(task: &mut Task, done: Done, is_last: bool)
     ensures back { IsBack done.machine task.old task.new }
     ensures trace { task.new.trace ≡ task.old.trace }
@@ -62,6 +62,7 @@ fn come_back(task: &mut Task, done: Done, is_last: bool)
     } = done;
     task.whereabouts = Whereabouts::Here(ReplicatedMachine::new(machine));
     if is_last {
+        task.whereabouts.reuse(began);
         return;
     }
     task.whereabouts.replicate(began, quantum, count);
@@ -227,6 +228,7 @@ impl Running {
             standing,
         )?;
         join(&mut self.tasks, child);
+        rest_ended(self.system.alloc, &mut self.tasks, place);
         self.out -= 1;
         self.ran += count;
         Ok(answer)

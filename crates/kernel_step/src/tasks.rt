@@ -12,6 +12,7 @@ use crate::task::Task;
 use crate::whereabouts::Whereabouts;
 use kernel_model::Refused;
 use machine_model::Stop;
+use std::alloc::Global;
 
 /// The place of the process of a number, from 1.
 pub fn place_of(tasks: &[Task], pid: u32) -> Option<usize>
@@ -93,5 +94,26 @@ pub fn hand_all(tasks: &mut [Task], committed: u64)
 {
     for task in tasks.iter_mut() {
         task.trace.advance(committed);
+    }
+}
+
+/// The machine of the process at this place, which has ended, rests. It shares what is the same with the machine of the process before
+/// it by number: as a rule a child of the same parent, which has ended too.
+fn rest_at(alloc: Global, tasks: &mut [Task], place: usize)
+    requires { place < length tasks.old }
+    ensures { tasks.new ≡ tasks.old }
+{
+    let (before, from) = tasks.split_at_mut(place);
+    let like = before.last().map(|task| task.machine());
+    from[0].whereabouts.rest(alloc, like);
+}
+
+/// The machine of the process at this place rests, if the process has ended. Where memory runs out it stays as it is.
+pub fn rest_ended(alloc: Global, tasks: &mut Vec<Task>, place: usize)
+    requires { place < length tasks.old.items }
+    ensures { tasks.new.items ≡ tasks.old.items }
+{
+    if tasks[place].trace.has_end() {
+        rest_at(alloc, tasks, place);
     }
 }

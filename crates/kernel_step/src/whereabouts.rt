@@ -4,6 +4,7 @@ ghost use Rattle.machine_model.specs.States.{run};
 
 use crate::replicated::ReplicatedMachine;
 use machine::Machine;
+use std::alloc::Global;
 use std::sync::Arc;
 
 /// Where a process's machine is: in the kernel, or with its borrower.
@@ -35,6 +36,24 @@ impl Whereabouts {
     {
         if let Whereabouts::Here(machine) = self {
             machine.replicate(began, quantum, count);
+        }
+    }
+
+    /// As `ReplicatedMachine::reuse`, where the machine is here.
+    pub fn reuse(&mut self, began: Arc<Machine>)
+        ensures { self.new ≡ self.old }
+    {
+        if let Whereabouts::Here(machine) = self {
+            machine.reuse(began);
+        }
+    }
+
+    /// As `ReplicatedMachine::rest`, where the machine is here.
+    pub fn rest(&mut self, alloc: Global, like: Option<&Machine>)
+        ensures { self.new ≡ self.old }
+    {
+        if let Whereabouts::Here(machine) = self {
+            machine.rest(alloc, like);
         }
     }
 

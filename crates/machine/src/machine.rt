@@ -214,6 +214,17 @@ impl Machine {
         architectural.into_space()
     }
 
+    /// The machine of a process that has ended, which goes on no more: its memory rests (`Space::rest`), and what it has for speed
+    /// alone goes. It would still go on as before, but slowly.
+    pub fn rest(&mut self, alloc: Global, like: Option<&Machine>)
+        ensures { self.new ≡ self.old }
+    {
+        let like = like.map(|machine| machine.space());
+        self.architectural.space.rest(alloc, like);
+        self.own = Vec::new(alloc);
+        self.spare = None;
+    }
+
     /// Whether two machines are in the same state: registers, memory with rights, and count.
     pub fn is_same(&self, other: &Machine) -> bool
         ensures { IsTrue result ↔ (self.now ≡ other.now) }

@@ -155,6 +155,15 @@ impl SharedMachine {
         }
     }
 
+    /// As `Machine::rest`, where nobody else looks at it.
+    pub fn rest(&mut self, alloc: Global, like: Option<&Machine>)
+        ensures { self.new ≡ self.old }
+    {
+        if let Form::Whole(machine) = &mut *self.form {
+            machine.rest(alloc, like);
+        }
+    }
+
     /// As `Machine::run`. One that stands at a call or a trap is not copied.
     pub fn run(&mut self, max: u32) -> (u32, Stop)
         requires { self.old.count + max ≤ 2 ^ 40 }

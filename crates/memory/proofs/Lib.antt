@@ -12,3 +12,4 @@ pub mod SameWords
 pub mod Standing
 pub mod Copies
 pub mod Rooms
+pub mod Pieces

@@ -70,7 +70,7 @@ set-other (q ∷ qs) rest zero m new d h same word = by (has_word new m) (has_wo
 set-other (q ∷ qs) rest (suc i) m new d h same word = ap (cond (has_word q m) (Some (word_in true q m))) (set-other qs rest i m new d (omega arith) same word)
 
 -- the words of a run in which some were put
-length-spliced : (xs ws : List (List ℕ)) (a : ℕ) → a + length ws ≤ length xs → length (take a xs ++ (ws ++ drop (a + length ws) xs)) ≡ length xs
+pub length-spliced : (xs ws : List (List ℕ)) (a : ℕ) → a + length ws ≤ length xs → length (take a xs ++ (ws ++ drop (a + length ws) xs)) ≡ length xs
 length-spliced xs ws a fits =
     omega (arith, length-append (take a xs) (ws ++ drop (a + length ws) xs), length-append ws (drop (a + length ws) xs), length-take-le a xs (omega arith), length-drop (a + length ws) xs)
 

@@ -1,5 +1,5 @@
 -- Where words and bytes stand.
-use Rattle.std.proofs.Common.{◌≡◌, ℕ, suc, zero, ◌+◌, ◌/◌, ◌%◌, ◌^◌, ◌<◌, Bool, true, false, cond, List, [], ◌∷◌, length, get_or, take, map, refl, sym, ap, ◌∙◌, arith, inl, inr}
+use Rattle.std.proofs.Common.{◌≡◌, ℕ, suc, zero, ◌+◌, ◌*◌, ◌/◌, ◌%◌, ◌^◌, ◌<◌, ◌≤◌, Bool, true, false, cond, List, [], ◌∷◌, length, get_or, take, map, refl, sym, ap, ◌∙◌, arith, inl, inr}
 use Rattle.std.specs.Prelude.{slice_index_or, Option, Some, None, option_map, is_some}
 use Rattle.std.specs.FinMap.{get}
 use Rattle.std.proofs.lemmas.Bool.{cases_lt}
@@ -8,6 +8,8 @@ use Rattle.memory_model.specs.Memory.{Cell}
 use Rattle.memory.specs.Words.{Word, cell_of, memory_of_words}
 use Rattle.memory.specs.Pages.{Pages, has_word, word_in, word_among, words_of}
 use Rattle.memory.proofs.Cells.{get-past, get-cell}
+use Rattle.memory.proofs.Places.{has_word-range}
+use Rattle.memory.proofs.Putting.{has_word-within}
 
 cond_some : (b : Bool) (w : Word) (x : Option Word) → is_some x ≡ true → is_some (cond b (Some w) x) ≡ true
 cond_some true w x e = refl
@@ -88,3 +90,12 @@ module _ {X : Type 0} (v : X → Pages) (xs ys : List X) where
 
   pub same_at-map : (i : ℕ) (x y : X) → length xs ≡ length ys → i < length xs → x ≡ get_or xs i x → y ≡ get_or ys i y → map v xs ≡ map v ys → v x ≡ v y
   same_at-map i x y l h ex ey e = ap v ex ∙ sym (get_or-map v xs i x (v x) h) ∙ ap (λ zs. get_or zs i (v x)) e ∙ get_or-map v ys i y (v x) (omega arith) ∙ ap v (sym ey)
+
+-- the addresses of a run
+module _ (p : Pages) (first count a : ℕ) (at : first ≡ 4 * p.first) (size : count ≡ 4 * length p.words) where
+  pub span-has : first ≤ a → a < first + count → has_word p (a / 4) ≡ true
+  span-has low high = has_word-within p (a / 4) (omega arith) (omega arith)
+
+  pub has-span : has_word p (a / 4) ≡ true → (first ≤ a) × (a < first + count)
+  has-span has =
+      let range = has_word-range p (a / 4) has in (omega (arith, range.0), omega (arith, range.1))

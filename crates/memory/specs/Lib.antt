@@ -3,3 +3,4 @@ pub mod Pages
 pub mod Access
 pub mod CopyFault
 pub mod Rooms
+pub mod Resting

@@ -1,9 +1,10 @@
 //! Whether two spaces are the same.
-ghost use Rattle.std.specs.Prelude.{◌≡◌, ℕ, ◌/◌, ◌^◌, ◌<◌, ◌↔◌, IsTrue, IsSome, map, true};
+ghost use Rattle.std.specs.Prelude.{◌≡◌, ℕ, ◌/◌, ◌^◌, ◌<◌, ◌≤◌, ◌↔◌, IsTrue, IsSome, map, true};
 ghost use Rattle.std.specs.FinMap.{get};
 ghost use Rattle.memory.specs.Pages.{has_word};
 
 use crate::part::Part;
+use crate::run::Run;
 use crate::space::Space;
 use std::sync::Arc;
 
@@ -26,8 +27,8 @@ impl Space {
         if !self.agrees_at(other, near) || !self.agrees_at(other, next) {
             return false;
         }
-        for part in more {
-            if !self.agrees_at(other, part) {
+        for run in more {
+            if !self.agrees_over(other, run) {
                 return false;
             }
         }
@@ -44,7 +45,22 @@ impl Space {
         ensures { IsTrue result ↔ ((a : ℕ) → a < 2 ^ 32 → has_word part.now (a / 4) ≡ true → get self.now a ≡ get other.now a) }
     {
         let first = 4 * u64::from(part.first);
-        for at in first..first + 4 * part.words.len() as u64 {
+        self.agrees_between(other, first, first + 4 * part.words.len() as u64)
+    }
+
+    /// As `agrees_at`, of a run that is not at hand.
+    fn agrees_over(&self, other: &Space, run: &Run) -> bool
+        ensures { IsTrue result ↔ ((a : ℕ) → a < 2 ^ 32 → has_word run.now (a / 4) ≡ true → get self.now a ≡ get other.now a) }
+    {
+        let first = 4 * u64::from(run.first());
+        self.agrees_between(other, first, first + 4 * run.count() as u64)
+    }
+
+    /// Whether the same stands in both from an address up to another.
+    fn agrees_between(&self, other: &Space, first: u64, past: u64) -> bool
+        ensures { IsTrue result ↔ ((a : ℕ) → first ≤ a → a < past → get self.now a ≡ get other.now a) }
+    {
+        for at in first..past {
             if self.cell(at) != other.cell(at) {
                 return false;
             }

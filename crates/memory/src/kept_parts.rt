@@ -3,7 +3,7 @@ ghost use Rattle.std.specs.Prelude.{◌≡◌, IfOk};
 
 use crate::kept_part::KeptPart;
 use crate::own::OwnParts;
-use crate::part::Part;
+use crate::run::Run;
 use std::alloc::{AllocError, Global};
 use std::marker::Model;
 
@@ -60,7 +60,7 @@ impl KeptParts {
         Ok(OwnParts {
             near: self.near.part(alloc)?,
             next: self.next.part(alloc)?,
-            more: parts_of(alloc, self.more.as_slice())?,
+            more: runs_of(alloc, self.more.as_slice())?,
         })
     }
 }
@@ -79,26 +79,22 @@ impl KeptParts {
     }
 }
 
-fn kept_parts(
-    alloc: Global,
-    parts: &[Part],
-    before: &[KeptPart],
-) -> Result<Vec<KeptPart>, AllocError>
-    ensures { IfOk result (λ v. v.items ≡ parts.now) }
+fn kept_parts(alloc: Global, runs: &[Run], before: &[KeptPart]) -> Result<Vec<KeptPart>, AllocError>
+    ensures { IfOk result (λ v. v.items ≡ runs.now) }
 {
-    let mut kept = Vec::with_capacity(alloc, parts.len())?;
-    for (i, part) in parts.iter().enumerate() {
-        kept.push(part.keep(alloc, before.get(i))?)?;
+    let mut kept = Vec::with_capacity(alloc, runs.len())?;
+    for (i, run) in runs.iter().enumerate() {
+        kept.push(run.keep(alloc, before.get(i))?)?;
     }
     Ok(kept)
 }
 
-fn parts_of(alloc: Global, kept: &[KeptPart]) -> Result<Vec<Part>, AllocError>
+fn runs_of(alloc: Global, kept: &[KeptPart]) -> Result<Vec<Run>, AllocError>
     ensures { IfOk result (λ v. v.items ≡ kept.now) }
 {
-    let mut parts = Vec::with_capacity(alloc, kept.len())?;
+    let mut runs = Vec::with_capacity(alloc, kept.len())?;
     for part in kept {
-        parts.push(part.part(alloc)?)?;
+        runs.push(Run::whole(alloc, part.part(alloc)?))?;
     }
-    Ok(parts)
+    Ok(runs)
 }

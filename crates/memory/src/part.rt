@@ -9,6 +9,7 @@ ghost use Rattle.memory.specs.Rooms.{IsAlike};
 use memory_model::{BusFault, Rights, Width};
 use std::alloc::{AllocError, Global};
 use std::marker::Model;
+use std::mem;
 
 /// One above the number of the last word.
 pub(crate) const WORDS: u32 = 0x4000_0000;
@@ -75,6 +76,34 @@ impl Part {
             execute: false,
             words: Vec::new(alloc),
         }
+    }
+
+    /// A run that begins where this one does, with its rights and no words. Takes no memory.
+    pub fn without_words(&self, alloc: Global) -> Part
+        ensures { result ≡ record { first = self.now.first; read = self.now.read; execute = self.now.execute; words = [] } }
+    {
+        Part {
+            first: self.first,
+            read: self.read,
+            execute: self.execute,
+            words: Vec::new(alloc),
+        }
+    }
+
+    /// Its words.
+    pub fn as_words(&self) -> &[[u8; 4]]
+        ensures { result.now ≡ self.now.words }
+    {
+        self.words.as_slice()
+    }
+
+    /// Its words and these change places.
+    pub fn swap_words(&mut self, words: &mut Vec<[u8; 4]>)
+        requires { self.old.first + length words.old.items ≤ 2 ^ 30 }
+        ensures part { self.new ≡ record { first = self.old.first; read = self.old.read; execute = self.old.execute; words = words.old.items } }
+        ensures words { words.new.items ≡ self.old.words }
+    {
+        mem::swap(&mut self.words, words);
     }
 
     /// Whether there are no pages.

@@ -5,17 +5,18 @@ ghost use Rattle.memory.specs.Pages.{HaveBoth, has_word, word_in, words_of};
 
 use crate::own::OwnParts;
 use crate::part::Part;
+use crate::run::Run;
 use std::sync::Arc;
 
 /// The index of the first run that has word n.
 #[inline]
-pub fn place_of(parts: &[Part], n: u32) -> Option<usize>
-    ensures { result ≡ position (λ p. has_word p n) parts.now }
+pub fn place_of(runs: &[Run], n: u32) -> Option<usize>
+    ensures { result ≡ position (λ p. has_word p n) runs.now }
 {
-    parts.iter().position(|part| part.has(n))
+    runs.iter().position(|run| run.has(n))
 }
 
-/// As `place_of`, over shared runs.
+/// As `place_of`, over shared parts.
 #[inline]
 pub fn place_of_shared(parts: &[Arc<Part>], n: u32) -> Option<usize>
     ensures { result ≡ position (λ a. has_word a.value n) parts.now }
@@ -24,15 +25,15 @@ pub fn place_of_shared(parts: &[Arc<Part>], n: u32) -> Option<usize>
 }
 
 /// The lowest word past n and before `end` at which one of these runs begins; else `end`.
-pub fn next_start_of(parts: &[Part], n: u32, end: u32) -> u32
+pub fn next_start_of(runs: &[Run], n: u32, end: u32) -> u32
     requires { n < end }
     ensures past { n < result }
     ensures within { result ≤ end }
-    ensures none { (m : ℕ) → n ≤ m → m < result → HaveBoth parts.now n m }
+    ensures none { (m : ℕ) → n ≤ m → m < result → HaveBoth runs.now n m }
 {
     let mut next = end;
-    for part in parts {
-        next = part.next_start(n, next);
+    for run in runs {
+        next = run.next_start(n, next);
     }
     next
 }

@@ -7,6 +7,7 @@ ghost use Rattle.memory.specs.Rooms.{AreAlike, IsRoomFor};
 use crate::cloning::shares_of;
 use crate::own::OwnParts;
 use crate::part::Part;
+use crate::run::Run;
 use crate::space::Space;
 use std::alloc::{AllocError, Global};
 
@@ -48,26 +49,45 @@ impl Space {
     }
 
     /// Copies what stands in these runs' places.
-    fn fill_runs(&mut self, from: &Space, parts: &[Part])
+    fn fill_runs(&mut self, from: &Space, runs: &[Run])
         requires { IsRoomFor self.old from.now }
         ensures room { IsRoomFor self.new from.now }
         ensures kept { (a : ℕ) → get self.old a ≡ get from.now a → get self.new a ≡ get from.now a }
-        ensures runs { (i : ℕ) (d : Pages) → i < length parts.now → (a : ℕ) → a < 2 ^ 32 → has_word (slice_index_or parts.now i d) (a / 4) ≡ true → get self.new a ≡ get from.now a }
+        ensures runs { (i : ℕ) (d : Pages) → i < length runs.now → (a : ℕ) → a < 2 ^ 32 → has_word (slice_index_or runs.now i d) (a / 4) ≡ true → get self.new a ≡ get from.now a }
     {
-        for part in parts {
-            self.fill_run(from, part);
+        for run in runs {
+            self.fill_over(from, run);
         }
     }
 
-    /// As `fill_runs`, of one run.
+    /// As `fill_runs`, of a run at hand.
     fn fill_run(&mut self, from: &Space, part: &Part)
         requires { IsRoomFor self.old from.now }
         ensures room { IsRoomFor self.new from.now }
         ensures kept { (a : ℕ) → get self.old a ≡ get from.now a → get self.new a ≡ get from.now a }
         ensures run { (a : ℕ) → a < 2 ^ 32 → has_word part.now (a / 4) ≡ true → get self.new a ≡ get from.now a }
     {
-        let first = 4 * u64::from(part.first);
-        let count = 4 * part.words.len();
+        self.fill_between(from, 4 * u64::from(part.first), 4 * part.words.len());
+    }
+
+    /// As `fill_runs`, of one run.
+    fn fill_over(&mut self, from: &Space, run: &Run)
+        requires { IsRoomFor self.old from.now }
+        ensures room { IsRoomFor self.new from.now }
+        ensures kept { (a : ℕ) → get self.old a ≡ get from.now a → get self.new a ≡ get from.now a }
+        ensures run { (a : ℕ) → a < 2 ^ 32 → has_word run.now (a / 4) ≡ true → get self.new a ≡ get from.now a }
+    {
+        self.fill_between(from, 4 * u64::from(run.first()), 4 * run.count());
+    }
+
+    /// Copies what stands at so many addresses from one on.
+    fn fill_between(&mut self, from: &Space, first: u64, count: usize)
+        requires room { IsRoomFor self.old from.now }
+        requires range { first + count ≤ 2 ^ 32 }
+        ensures room { IsRoomFor self.new from.now }
+        ensures kept { (a : ℕ) → get self.old a ≡ get from.now a → get self.new a ≡ get from.now a }
+        ensures copied { (a : ℕ) → first ≤ a → a < first + count → get self.new a ≡ get from.now a }
+    {
         let mut done = 0;
         while done < count {
             done += self.fill_stretch(from, first + done as u64, count - done);

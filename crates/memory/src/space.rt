@@ -77,7 +77,7 @@ impl Space {
     {
         let part = Part::new(alloc, first_page, rights, bytes)?;
         if rights.write {
-            self.own.add(part)?;
+            self.own.add(alloc, part)?;
         } else {
             self.shared.insert(0, Arc::new(alloc, part)?)?;
         }

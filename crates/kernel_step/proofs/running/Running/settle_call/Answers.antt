@@ -1,5 +1,6 @@
 -- The child comes after the others.
-use Rattle.std.proofs.Common.{◌≡◌, ◌<◌, ◌++◌, ◌∙◌, ℕ, ◌+◌, List, Some, length, refl, slice_get, slice_set, option_to_list, ap, sym, subst, arith}
+use Rattle.std.proofs.Common.{◌≡◌, ◌<◌, ◌++◌, ◌∙◌, ℕ, ◌+◌, List, Some, length, refl, slice_get, slice_set, option_to_list, ap, sym, subst, arith, length-append}
+use Rattle.std.proofs.Math.ListN.{length-set}
 use Rattle.kernel_step.specs.declared.task.Task.{Task}
 use Rattle.kernel_step.proofs.EnterResults.{on-err-any}
 use Rattle.kernel_step.proofs.Lists.{get-there}
@@ -27,7 +28,7 @@ returns-clause-done c =
       child = c.in_ok-answer.child;
       outcome = done.0;
       entered = done.2;
-      tasks = c.join.ensures ∙ ap (λ (ts : List Task). slice_set ts c.args.place c.settle_enter.new.task ++ option_to_list c.in_ok-answer.child) c.reserve.ensures.items;
+      tasks = c.rest_ended.ensures ∙ c.join.ensures ∙ ap (λ (ts : List Task). slice_set ts c.args.place c.settle_enter.new.task ++ option_to_list c.in_ok-answer.child) c.reserve.ensures.items;
       history = c.in_ok-answer.ensures.history;
       ran = ap (λ (n : ℕ). c.args.self.now.ran + n) c.from-count.ensures;
       out = omega (arith, c.requires.fine.some);
@@ -54,3 +55,9 @@ returns-in_err-answer-clause-same c =
       out = refl;
       last_lent = refl;
     })
+
+pub rest_ended-requires : goal.rest_ended-requires
+rest_ended-requires c =
+    let old : List Task = c.args.self.now.tasks.items in
+    let after : List Task = slice_set c.reserve.new.self.items c.args.place c.settle_enter.new.task in
+    omega (arith, c.requires.fine.within, ap length c.reserve.ensures.items, length-set c.reserve.new.self.items c.args.place c.settle_enter.new.task, ap length c.join.ensures, length-append after (option_to_list c.in_ok-answer.child))

@@ -1,5 +1,6 @@
 -- The parts do what the run says.
-use Rattle.std.proofs.Common.{◌≡◌, ◌∙◌, ℕ, ◌^◌, ◌≤◌, refl, ap, sym, subst, ◌++◌, List, Option, None, Some, length, slice_get, slice_set, map, option_to_list, Bool, arith}
+use Rattle.std.proofs.Common.{◌≡◌, ◌∙◌, ℕ, ◌^◌, ◌≤◌, refl, ap, sym, subst, ◌++◌, List, Option, None, Some, length, slice_get, slice_set, map, option_to_list, Bool, arith, length-append}
+use Rattle.std.proofs.Math.ListN.{length-set}
 use Rattle.machine_model.specs.States.{stopped_at}
 use Rattle.kernel_model.specs.Answers.{with_child}
 use Rattle.kernel_model.specs.Answers.{entered as answer_to}
@@ -74,8 +75,8 @@ returns-clause-done c =
     let u : Task = c.enter_task.new.task in
     let child : Option Task = c.in_ok-outcome.child in
     let run = runs (goal.at.returns-clause-done c).After-index_mut-task u c.enter_task.new.system c.in_ok-outcome.outcome child c.in_ok-outcome.ensures.done in
-    let grown : c.join.new.tasks.items ≡ slice_set tasks c.in_ok-place.place u ++ option_to_list child =
-    c.join.ensures ∙ ap (λ (ts : List Task). slice_set ts c.in_ok-place.place u ++ option_to_list child) c.in_ok-reserve.ensures.items in
+    let grown : c.rest_ended.new.tasks.items ≡ slice_set tasks c.in_ok-place.place u ++ option_to_list child =
+    c.rest_ended.ensures ∙ c.join.ensures ∙ ap (λ (ts : List Task). slice_set ts c.in_ok-place.place u ++ option_to_list child) c.in_ok-reserve.ensures.items in
     record {
       fine =
           ap (λ (f : Bool). enter_refusal_of tasks f c.args.pid) (sym c.is_full-full.ensures)
@@ -112,3 +113,9 @@ returns-in_err-outcome-clause-same c =
       out = refl;
       last_lent = refl;
     })
+
+pub rest_ended-requires : goal.rest_ended-requires
+rest_ended-requires c =
+    let u : Task = c.enter_task.new.task in
+    let set : List Task = slice_set c.reserve.new.self.items c.in_ok-place.place u in
+    omega (arith, (placed (goal.at.rest_ended-requires c).After-index_mut-task).there, ap length c.in_ok-reserve.ensures.items, length-set c.reserve.new.self.items c.in_ok-place.place u, ap length c.join.ensures, length-append set (option_to_list c.in_ok-outcome.child))

@@ -29,44 +29,44 @@ returns-then-not-agrees_at c =
           ],
     )
 
+pub returns-then-not-agrees_over : goal.returns-then-not-agrees_over
+returns-then-not-agrees_over c =
+    let own : List Pages = c.self.inside.own in
+    let shared : List Pages = map (λ a. a.value) c.self.inside.shared.items in
+    let i : ℕ = c.loop-run.run-index in
+    let item : c.run-item.result ≡ slice_index_or own (suc (suc i)) c.run-item.result = c.run-item.is ∙ ap (λ (ps : List Pages). slice_index_or ps (suc (suc i)) c.run-item.result) c.parts.ensures in
+    let below : suc (suc i) < length own = omega (arith, c.loop-run-test.true, ap length c.parts.ensures) in (
+      λ e. absurd cc,
+      λ same. sym c.if-not-agrees_over.true
+          ∙ c.agrees_over.ensures.1 (λ a h has. same a (ap (λ (m : Memory). is_some (get m a)) (sym c.self.view_is) ∙ byte_in-own own shared (suc (suc i)) a c.run-item.result h below (ap (λ (p : Pages). has_word p (a / 4)) (sym item) ∙ has))),
+    )
+
 pub returns-then-not-agrees_at-3 : goal.returns-then-not-agrees_at-3
 returns-then-not-agrees_at-3 c =
     let own : List Pages = c.self.inside.own in
     let shared : List Pages = map (λ a. a.value) c.self.inside.shared.items in
     let i : ℕ = c.loop-part.part-index in
-    let item : c.part-item.result ≡ slice_index_or own (suc (suc i)) c.part-item.result = c.part-item.is ∙ ap (λ (ps : List Pages). slice_index_or ps (suc (suc i)) c.part-item.result) c.parts.ensures in
-    let below : suc (suc i) < length own = omega (arith, c.loop-part-test.true, ap length c.parts.ensures) in (
+    let item : c.deref.result.now ≡ slice_index_or shared i c.deref.result.now =
+    c.deref.ensures ∙ ap (λ a. a.value) c.part-item.is ∙ sym (get_or-map (λ a. a.value) c.deref-part-items.result.now i c.part-item.result)
+    ∙ ap (λ arcs. slice_index_or (map (λ a. a.value) arcs) i c.part-item.result.value) c.deref-part-items.ensures.value
+    ∙ ap (slice_index_or shared i) (sym c.deref.ensures) in
+    let below : i < length shared = omega (arith, c.loop-part-test.true, ap length c.deref-part-items.ensures.value, length-map c.self.inside.shared.items (λ a. a.value)) in (
       λ e. absurd cc,
       λ same. sym c.if-not-agrees_at-3.true
-          ∙ c.agrees_at-in-loop-part.ensures.1 (λ a h has. same a (ap (λ (m : Memory). is_some (get m a)) (sym c.self.view_is) ∙ byte_in-own own shared (suc (suc i)) a c.part-item.result h below (ap (λ (p : Pages). has_word p (a / 4)) (sym item) ∙ has))),
+          ∙ c.agrees_at-in-loop-part.ensures.1 (λ a h has. same a (ap (λ (m : Memory). is_some (get m a)) (sym c.self.view_is) ∙ byte_in-shared own shared i a c.deref.result.now h below (ap (λ (p : Pages). has_word p (a / 4)) (sym item) ∙ has))),
     )
 
-pub returns-then-not-agrees_at-4 : goal.returns-then-not-agrees_at-4
-returns-then-not-agrees_at-4 c =
-    let own : List Pages = c.self.inside.own in
-    let shared : List Pages = map (λ a. a.value) c.self.inside.shared.items in
-    let i : ℕ = c.loop-part-2.part-index in
-    let item : c.deref.result.now ≡ slice_index_or shared i c.deref.result.now =
-    c.deref.ensures ∙ ap (λ a. a.value) c.part-item-in-loop-part-2.is ∙ sym (get_or-map (λ a. a.value) c.deref-part-items.result.now i c.part-item-in-loop-part-2.result)
-    ∙ ap (λ arcs. slice_index_or (map (λ a. a.value) arcs) i c.part-item-in-loop-part-2.result.value) c.deref-part-items.ensures.value
-    ∙ ap (slice_index_or shared i) (sym c.deref.ensures) in
-    let below : i < length shared = omega (arith, c.loop-part-2-test.true, ap length c.deref-part-items.ensures.value, length-map c.self.inside.shared.items (λ a. a.value)) in (
-      λ e. absurd cc,
-      λ same. sym c.if-not-agrees_at-4.true
-          ∙ c.agrees_at-in-loop-part-2.ensures.1 (λ a h has. same a (ap (λ (m : Memory). is_some (get m a)) (sym c.self.view_is) ∙ byte_in-shared own shared i a c.deref.result.now h below (ap (λ (p : Pages). has_word p (a / 4)) (sym item) ∙ has))),
-    )
-
-pub loop-part-2-preserved : goal.loop-part-2-preserved
-loop-part-2-preserved c = λ i d h a low has.
-    elim (cases_lt i c.loop-part-2.part-index) [
-      | inl below ↦ c.loop-part-2.invariant i d below a low has
+pub loop-part-preserved : goal.loop-part-preserved
+loop-part-preserved c = λ i d h a low has.
+    elim (cases_lt i c.loop-part.part-index) [
+      | inl below ↦ c.loop-part.invariant i d below a low has
       | inr past ↦
-          let here : i ≡ c.loop-part-2.part-index = omega arith in
+          let here : i ≡ c.loop-part.part-index = omega arith in
           let item : slice_index_or (map (λ a. a.value) c.deref-part-items.result.now) i d ≡ c.deref.result.now =
           ap (λ j. slice_index_or (map (λ a. a.value) c.deref-part-items.result.now) j d) here
-          ∙ get_or-map_within (λ a. a.value) c.deref-part-items.result.now c.loop-part-2.part-index c.part-item-in-loop-part-2.result d c.loop-part-2-test.true
-          ∙ sym (c.deref.ensures ∙ ap (λ a. a.value) c.part-item-in-loop-part-2.is) in
-          c.agrees_at-in-loop-part-2.ensures.0 c.if-not-agrees_at-4.false a low (ap (λ (p : Pages). has_word p (a / 4)) (sym item) ∙ has)
+          ∙ get_or-map_within (λ a. a.value) c.deref-part-items.result.now c.loop-part.part-index c.part-item.result d c.loop-part-test.true
+          ∙ sym (c.deref.ensures ∙ ap (λ a. a.value) c.part-item.is) in
+          c.agrees_at-in-loop-part.ensures.0 c.if-not-agrees_at-3.false a low (ap (λ (p : Pages). has_word p (a / 4)) (sym item) ∙ has)
     ]
 
 pub returns : goal.returns
@@ -76,8 +76,8 @@ returns c =
       λ _ a some.
           by_run (get c.args.self.now a ≡ get c.args.other.now a) own shared a
           (λ i d h low has. each c.parts.result.0.now c.parts.result.1.now c.parts.result.2.now own (get c.args.self.now a ≡ get c.args.other.now a) (a / 4) c.parts.ensures (c.agrees_at.ensures.0 c.if-not-agrees_at.false a low) (c.agrees_at-else-not-agrees_at.ensures.0 c.if-not-agrees_at-2.false a low)
-          (λ j d k its. c.loop-part.invariant j d (omega (arith, c.loop-part-test.false)) a low its) i d h has)
-          (λ i d h low has. c.loop-part-2.invariant i d (omega (arith, c.loop-part-2-test.false, ap length c.deref-part-items.ensures.value, length-map c.self.inside.shared.items (λ a. a.value))) a low (ap (λ arcs. has_word (slice_index_or (map (λ a. a.value) arcs) i d) (a / 4)) c.deref-part-items.ensures.value ∙ has))
+          (λ j d k its. c.loop-run.invariant j d (omega (arith, c.loop-run-test.false)) a low its) i d h has)
+          (λ i d h low has. c.loop-part.invariant i d (omega (arith, c.loop-part-test.false, ap length c.deref-part-items.ensures.value, length-map c.self.inside.shared.items (λ a. a.value))) a low (ap (λ arcs. has_word (slice_index_or (map (λ a. a.value) arcs) i d) (a / 4)) c.deref-part-items.ensures.value ∙ has))
           (ap (λ (m : Memory). is_some (get m a)) c.self.view_is ∙ some),
       λ _. refl,
     )

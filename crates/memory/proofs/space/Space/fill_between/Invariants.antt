@@ -2,7 +2,7 @@
 use Rattle.std.proofs.Common.{◌≡◌, ℕ, ◌+◌, ◌-◌, ◌<◌, ◌≤◌}
 use Rattle.std.specs.FinMap.{get}
 use Rattle.memory.specs.Rooms.{IsRoomFor}
-use Rattle.memory.proofs.space.Space.fill_run.Given as goal
+use Rattle.memory.proofs.space.Space.fill_between.Given as goal
 
 abbrev pub invariant-loop-done : goal.invariant-loop-done
 invariant-loop-done l =

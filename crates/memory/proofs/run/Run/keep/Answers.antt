@@ -1,0 +1,16 @@
+-- A run with no pieces is its part.
+use Rattle.std.proofs.Common.{◌≡◌, ◌∙◌, length, map, sym, subst, arith, vec_len}
+use Rattle.std.specs.Prelude.{IfOk}
+use Rattle.std.proofs.lemmas.Bool.{eqb-true}
+use Rattle.memory.specs.Pages.{Pages}
+use Rattle.memory.proofs.Pieces.{joined-none}
+use Rattle.memory.proofs.run.Run.keep.Goals as goal
+
+pub returns-then-is_empty : goal.returns-then-is_empty
+returns-then-is_empty c =
+    let none : vec_len c.self.inside.pieces ≡ 0 = eqb-true _ _ (sym c.is_empty.ensures ∙ c.if-is_empty.true) in
+    let same : c.self.inside.part ≡ c.args.self.now = sym (joined-none (λ a. a.value) c.self.inside.pieces.items c.self.inside.part (omega (arith, none, c.self.inside.pieces.ok.0))) ∙ c.self.view_is in
+    subst (λ (p : Pages). IfOk c.keep.result (λ k. k ≡ p)) same c.keep.ensures
+
+pub returns : goal.returns
+returns c = subst (λ (p : Pages). IfOk c.keep-2.result (λ k. k ≡ p)) c.in_ok-part.ensures c.keep-2.ensures
