@@ -1,5 +1,5 @@
 -- What a key is made from.
-use Rattle.std.specs.Prelude.{◌≡◌, ℕ, ◌++◌, List, [], ◌∷◌, length, take, drop, Option, Some, None}
+use Rattle.std.specs.Prelude.{ℕ, ◌++◌, nat_lt, if◌then◌else◌, List, [], ◌∷◌, length, take, drop, Option, Some, None}
 use Rattle.std.specs.Int.{w64, to_be_bytes}
 use Rattle.byteorder.specs.Endian.{big_number}
 use Rattle.sha2.specs.Hashers.{Holds256}
@@ -8,12 +8,16 @@ use Rattle.state_search.specs.declared.key.Key.{Key}
 use Rattle.state_search.specs.declared.state_digest.StateDigest.{StateDigest}
 
 -- a number in 8 bytes, the highest first
+abbrev pub word_bytes : ℕ → List ℕ
+word_bytes n = to_be_bytes w64 n
+
+-- a number in one byte where it is less than 255, else in 8 after that one: most are small
 abbrev pub number_bytes : ℕ → List ℕ
-number_bytes n = to_be_bytes w64 n
+number_bytes n = if nat_lt n 255 then n ∷ [] else 255 ∷ word_bytes n
 
 -- both halves of a key
 abbrev pub sum_bytes : Key → List ℕ
-sum_bytes k = number_bytes k.high ++ number_bytes k.low
+sum_bytes k = word_bytes k.high ++ word_bytes k.low
 
 -- bytes, after how many they are
 abbrev pub text_bytes : List ℕ → List ℕ

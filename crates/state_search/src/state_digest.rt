@@ -1,11 +1,14 @@
 //! A digest that is fed number by number, or text by text.
 ghost use Rattle.std.specs.Prelude.{◌≡◌, ◌∷◌, [], if◌then◌else◌, List, ℕ, IfOk};
-ghost use Rattle.state_search.specs.Digests.{Fed, IsOf, key_in, number_bytes, option_bytes, sum_bytes, text_bytes};
+ghost use Rattle.state_search.specs.Digests.{Fed, IsOf, key_in, number_bytes, option_bytes, sum_bytes, text_bytes, word_bytes};
 
 use crate::key::Key;
 use byteorder::{BigEndian, ByteOrder};
 use sha2::{Digest, Sha256};
 use std::alloc::AllocError;
+
+/// The byte before a number that is not less.
+const LONG: u8 = 255;
 
 /// A digest of numbers and lists of bytes, of which each stands with its length.
 #[derive(Drop)]
@@ -23,11 +26,23 @@ impl StateDigest {
         }
     }
 
-    pub fn number(&mut self, number: u64)
-        ensures { Fed self.old (number_bytes number) self.new }
+    /// A number in 8 bytes.
+    fn word(&mut self, number: u64)
+        ensures { Fed self.old (word_bytes number) self.new }
     {
         let bytes = number.to_be_bytes();
         self.hasher.update(bytes.as_slice());
+    }
+
+    pub fn number(&mut self, number: u64)
+        ensures { Fed self.old (number_bytes number) self.new }
+    {
+        if number < u64::from(LONG) {
+            self.byte(number as u8);
+        } else {
+            self.byte(LONG);
+            self.word(number);
+        }
     }
 
     pub fn byte(&mut self, byte: u8)
@@ -45,8 +60,8 @@ impl StateDigest {
     pub fn sum(&mut self, sum: Key)
         ensures { Fed self.old (sum_bytes sum) self.new }
     {
-        self.number(sum.high);
-        self.number(sum.low);
+        self.word(sum.high);
+        self.word(sum.low);
     }
 
     pub fn bytes(&mut self, bytes: &[u8])
