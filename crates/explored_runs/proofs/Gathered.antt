@@ -1,10 +1,11 @@
 -- What is in one more is put to the others.
-use Rattle.std.proofs.Common.{◌≡◌, ◌∙◌, ◌++◌, ◌∷◌, [], ℕ, List, append-nil, refl, sym, ap}
+use Rattle.std.proofs.Common.{◌≡◌, ◌∙◌, ◌++◌, ◌∷◌, [], ◌&&◌, ℕ, Bool, List, append-nil, refl, sym, ap}
+use Rattle.std.proofs.Math.Bool.{and-true, and_assoc}
 use Rattle.std.specs.Prelude.{option_to_list}
 use Rattle.std.specs.Global.{Vec}
 use Rattle.std.proofs.lemmas.List.{append_assoc}
 use Rattle.state_search.specs.declared.moves.Reached.{Reached}
-use Rattle.explored_runs.specs.Answering.{calls_by_next, calls_in, over_by_next, over_in, reached_by_next, reached_in, visited_in}
+use Rattle.explored_runs.specs.Answering.{all_stand, calls_by_next, calls_in, over_by_next, over_in, reached_by_next, reached_in, visited_in}
 use Rattle.order_outcomes.specs.declared.outcome.Outcome.{Outcome}
 use Rattle.explored_runs.specs.declared.visited.VisitedState.{VisitedState}
 use Rattle.explored_runs.specs.declared.runs.After.{After}
@@ -27,3 +28,7 @@ visited_more (x ∷ xs) a =
 pub calls_more : (xs : List After) (a : After) → calls_in (xs ++ a ∷ []) ≡ calls_in xs ++ calls_by_next a.next ∷ []
 calls_more [] a = refl
 calls_more (x ∷ xs) a = ap (λ (ns : List ℕ). calls_by_next x.next ∷ ns) (calls_more xs a)
+
+pub stand_more : (xs : List After) (a : After) → all_stand (xs ++ a ∷ []) ≡ all_stand xs && a.stands
+stand_more [] a = and-true a.stands
+stand_more (x ∷ xs) a = ap (λ (b : Bool). x.stands && b) (stand_more xs a) ∙ sym (and_assoc x.stands (all_stand xs) a.stands)

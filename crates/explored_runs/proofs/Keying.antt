@@ -1,7 +1,6 @@
 -- Runs are answered with their keys.
 use Rattle.std.proofs.Common.{◌≡◌, ◌∙◌, ◌++◌, ◌∷◌, [], ℕ, List, ap, subst, sym}
 use Rattle.std.specs.Global.{Vec}
-use Rattle.disk_model.specs.declared.change.NamedFile.{NamedFile}
 use Rattle.kernel_model.specs.Limits.{AreNumbered}
 use Rattle.kernel_model.specs.World.{Boot}
 use Rattle.order_laws.specs.Moves.{Seen, calls}

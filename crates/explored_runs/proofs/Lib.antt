@@ -2,7 +2,6 @@ mod Answered
 mod BootDisks
 mod Gathered
 mod Joining
-mod JoiningParts
 mod Keeping
 mod Keying
 mod Nexts

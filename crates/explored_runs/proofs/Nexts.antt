@@ -1,29 +1,28 @@
 -- What is answered of runs are calls.
-use Rattle.std.proofs.Common.{arith, ◌≡◌, ◌⊎◌, ◌∙◌, ◌++◌, ◌∷◌, [], ◌+◌, ◌==◌, ◌<◌, ◌≤◌, ℕ, zero, suc, List, Bool, true, false, map, length, append-nil, refl, sym, ap, subst, inl, inr}
+use Rattle.std.proofs.Common.{arith, ◌≡◌, ◌⊎◌, ◌∙◌, ◌++◌, ◌∷◌, [], ◌==◌, ◌<◌, ◌≤◌, ℕ, zero, suc, List, Bool, true, false, length, append-nil, refl, sym, ap, subst, inl, inr}
 use Rattle.std.specs.Prelude.{if◌then◌else◌}
 use Rattle.std.specs.Global.{Vec}
 use Rattle.std.specs.List.{Contains}
 use Rattle.std.proofs.lemmas.Bool.{cases_lt, eq-eqb, false≢true, ne_eqb}
 use Rattle.std.proofs.lemmas.List.{map-append}
-use Rattle.std.proofs.lemmas.List.Elements.{Contains-append_left, Contains-append_right, Contains-append_cases, Contains-push, Contains-push_cases}
+use Rattle.std.proofs.lemmas.List.Elements.{Contains-append_left, Contains-append_right, Contains-append_cases, Contains-push}
 use Rattle.disk_model.specs.declared.change.NamedFile.{NamedFile}
 use Rattle.kernel_model.specs.Limits.{AreNumbered}
-use Rattle.kernel_model.specs.World.{Boot}
-use Rattle.kernel_model.proofs.Numbering.{numbered_first}
 use Rattle.order_laws.specs.Moves.{Seen, calls}
-use Rattle.order_laws.specs.Orders.{IsOver, reached}
+use Rattle.order_laws.specs.Orders.{IsOver}
 use Rattle.order_laws.specs.Privacy.{IsPrivate}
 use Rattle.order_laws.proofs.Calls.{calls_commute}
 use Rattle.order_laws.proofs.Choosing.{reached-append}
+use Rattle.state_search.specs.Searches.{Answer}
 use Rattle.state_search.specs.declared.moves.Found.{Found}
 use Rattle.state_search.specs.declared.moves.Reached.{Reached}
-use Rattle.explored_runs.specs.Answering.{AreAnswered, AreNext, IsCopyOf, IsTried, boot_in, ways, with_each, working}
-use Rattle.explored_runs.specs.CallSearches.{AreCalls, IsAnswered}
+use Rattle.explored_runs.specs.Answering.{AreAnswered, AreNext, Expands, IsCopyOf, IsTried, StandOn, boot_in, seen_in_runs, seen_of_run, ways, with_each, working}
+use Rattle.explored_runs.specs.CallSearches.{AnswersCalls, AreCalls, IsAnswered}
 use Rattle.replayed_runs.specs.Replays.{seen_after_calls, seen_of}
 use Rattle.replayed_runs.specs.declared.replay.Replay.{Replay}
 use Rattle.explored_runs.specs.declared.runs.Runs.{Runs}
 use Rattle.explored_runs.specs.declared.runs.Tried.{Tried}
-use Rattle.explored_runs.proofs.Joining.{made, mapped}
+use Rattle.explored_runs.proofs.Joining.{made, mapped, only}
 use Rattle.replayed_runs.proofs.Owning.{works_there}
 
 module _ (n : ℕ) (s : Seen) where
@@ -129,7 +128,7 @@ module _ (r : Runs) (files : List NamedFile) where
   n = r.instructions
 
   abbrev seen : Vec ℕ → Seen
-  seen v = seen_after_calls n (boot_in r files) v.items
+  seen = seen_in_runs r files
 
   abbrev way : Reached (Vec ℕ) → List ℕ
   way x = x.state.items
@@ -161,7 +160,7 @@ module _ (r : Runs) (files : List NamedFile) where
   more_goes f own next among (inl one) = inl (one.0, one.1, (one.2.0, among one.2.0 one.2.1, one.2.2))
   more_goes f own next among (inr each) = inr (λ p works. let it = each p works in (it.0, among it.0 it.1, it.2))
 
-  pub are_calls : (level : List (Found (Vec ℕ))) (next : List (Reached (Vec ℕ))) → AreAnswered r files level next → AreCalls n seen level next
+  are_calls : (level : List (Found (Vec ℕ))) (next : List (Reached (Vec ℕ))) → AreAnswered r files level next → AreCalls n seen level next
   are_calls [] next are f is = absurd (let within = is.1 in let no : ⊥ = omega (arith, within) in no)
   are_calls (g ∷ fs) next are f is =
       let own = are.0 in
@@ -175,10 +174,13 @@ module _ (r : Runs) (files : List NamedFile) where
           (λ x among. subst (λ (xs : List (Reached (Vec ℕ))). Contains xs x) (sym joined) (Contains-append_right own rest x among)) (later f there)
       by own rest joined first later (inl here) = more_goes f own next
           (λ x among. subst (λ (xs : List (Reached (Vec ℕ))). Contains xs x) (sym joined) (Contains-append_left own rest x among))
-          (subst (λ (h : Found (Vec ℕ)). Goes h own) (only here) (goes g own first))
-        where
-          only : Contains (g ∷ []) f → g ≡ f
-          only is = elim (Contains-push_cases [] g f is) as (λ _. g ≡ f) [
-            | inl none ↦ absurd (let within = none.1 in let no : ⊥ = omega (arith, within) in no)
-            | inr same ↦ same
-          ]
+          (subst (λ (h : Found (Vec ℕ)). Goes h own) (only g f here) (goes g own first))
+
+  -- so what was answered for a search of runs is of the calls of their boot
+  pub answers_calls : (first : Reached (Vec ℕ)) (answers : List (Answer (Vec ℕ))) → first.state.items ≡ [] → StandOn r files
+      → ((a : Answer (Vec ℕ)) → Contains answers a → Expands r a.level a.next a.is_whole) → AnswersCalls n (boot_in r files) seen first answers
+  answers_calls first answers none on are = record {
+    begins = ap (λ (ps : List ℕ). seen_of_run r files ps) none;
+    each = λ a is. are_calls a.level a.next (are a is files on).0;
+    stand = λ a is. (are a is files on).1;
+  }

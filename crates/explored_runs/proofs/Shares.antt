@@ -1,6 +1,6 @@
 -- A level is shared out, and what each share found is put together.
 use Rattle.std.proofs.Common.{arith, ◌≡◌, ◌∙◌, ◌++◌, ◌∷◌, [], ◌+◌, ◌*◌, ◌<◌, ◌≤◌, ℕ, zero, suc, List, take, drop, length, refl, sym, ap, subst}
-use Rattle.std.specs.Prelude.{Result, Ok, Err, IfOk, min, ◌/◌, ◌%◌, slice_index_or}
+use Rattle.std.specs.Prelude.{Result, Ok, Err, IfOk, min, slice_index_or}
 use Rattle.std.specs.Global.{Vec}
 use Rattle.std.proofs.lemmas.List.{append_assoc, drop-drop, drop-take, take-append-drop, take-take, take_all}
 use Rattle.disk_model.specs.declared.change.NamedFile.{NamedFile}

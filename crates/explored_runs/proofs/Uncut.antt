@@ -1,6 +1,6 @@
 -- A search that was not refused left none.
-use Rattle.std.proofs.Common.{arith, ◌≡◌, ◌+◌, ◌<◌, ◌≤◌, ◌⊎◌, ◌∷◌, [], ℕ, List, length, inl, inr, refl, subst, sym}
-use Rattle.std.specs.Prelude.{Result, Ok, Err, IfOk, OnOk, nat_lt, if◌then◌else◌, Option, None, Some}
+use Rattle.std.proofs.Common.{arith, ◌≡◌, ◌+◌, ◌<◌, ◌≤◌, ◌∷◌, [], ℕ, Bool, true, List, length, inl, inr, refl, subst, sym}
+use Rattle.std.specs.Prelude.{Result, Ok, Err, IfOk, OnOk, Option, None, Some}
 use Rattle.std.specs.Global.{Vec}
 use Rattle.state_search.specs.Searches.{IsCut}
 use Rattle.state_search.specs.declared.bounds.Bounds.{Bounds}
@@ -21,21 +21,31 @@ pub on_ok : {A E : Type 0} {P Q : Type 0} (x : Result A E) → OnOk x P → (P �
 on_ok (Ok a) is f = f is
 on_ok (Err e) is f = tt
 
+-- and of two clauses of it
+pub on_ok_both : {A E : Type 0} {P Q R : Type 0} (x : Result A E) → OnOk x P → OnOk x Q → (P → Q → R) → OnOk x R
+on_ok_both (Ok a) is also f = f is also
+on_ok_both (Err e) is also f = tt
+
 pub if_ok : {A E : Type 0} {P Q : A → Type 0} (x : Result A E) → IfOk x P → ((a : A) → P a → Q a) → IfOk x Q
 if_ok (Ok a) is f = f a is
 if_ok (Err e) is f = tt
 
-pub left_none : (r : Runs) (many : ℕ) (left : List (Found (Vec ℕ))) (depth n : ℕ) → FindsRuns r many left depth → n ≡ length left → n ≡ 0 → SearchedAll r
-left_none r many left depth n finds size none =
-    record { many = many; depth = depth; finds = subst (λ (fs : List (Found (Vec ℕ))). FindsRuns r many fs depth) (none_of left n size none) finds }
+pub left_none : (r : Runs) (many : ℕ) (left : List (Found (Vec ℕ))) (depth n : ℕ) (is_whole : Bool) → FindsRuns r many left depth is_whole → n ≡ length left → n ≡ 0
+    → is_whole ≡ true → SearchedAll r
+left_none r many left depth n is_whole finds size none whole = record {
+  many = many;
+  depth = depth;
+  finds = subst (λ (b : Bool). FindsRuns r many [] depth b) whole (subst (λ (fs : List (Found (Vec ℕ))). FindsRuns r many fs depth is_whole) (none_of left n size none) finds);
+}
 
-pub part_left_none : (r : Runs) (p : Part) (many : ℕ) (left others : List (Found (Vec ℕ))) (depth n : ℕ) → FindsPartOfRuns r p.number p.of many left others depth → n ≡ length left
-    → n ≡ 0 → SearchedPart r p
-part_left_none r p many left others depth n finds size none = record {
+pub part_left_none : (r : Runs) (p : Part) (many : ℕ) (left others : List (Found (Vec ℕ))) (depth n : ℕ) (is_whole : Bool) → FindsPartOfRuns r p.number p.of many left others depth is_whole
+    → n ≡ length left → n ≡ 0 → is_whole ≡ true → SearchedPart r p
+part_left_none r p many left others depth n is_whole finds size none whole = record {
   many = many;
   others = others;
   depth = depth;
-  finds = subst (λ (fs : List (Found (Vec ℕ))). FindsPartOfRuns r p.number p.of many fs others depth) (none_of left n size none) finds;
+  finds = subst (λ (b : Bool). FindsPartOfRuns r p.number p.of many [] others depth b) whole
+      (subst (λ (fs : List (Found (Vec ℕ))). FindsPartOfRuns r p.number p.of many fs others depth is_whole) (none_of left n size none) finds);
 }
 
 -- the same bounds

@@ -1,15 +1,17 @@
 -- Runs that are replayed, and what a search of runs is answered: for each run those of one call more.
-use Rattle.std.specs.Prelude.{◌≡◌, ℕ, zero, suc, ◌⊎◌, Bool, true, false, if◌then◌else◌, List, [], ◌∷◌, ◌++◌, map, length, option_to_list, Result, Ok, Err}
+use Rattle.std.specs.Prelude.{◌≡◌, ℕ, zero, suc, ◌⊎◌, ◌&&◌, Bool, true, false, if◌then◌else◌, List, [], ◌∷◌, ◌++◌, map, length, option_to_list, Option, Some, None, Result, Ok, Err}
 use Rattle.std.specs.Global.{Vec}
 use Rattle.disk_model.specs.declared.change.NamedFile.{NamedFile}
 use Rattle.kernel_model.specs.World.{Boot}
 use Rattle.order_laws.specs.Moves.{Seen, calls}
 use Rattle.order_laws.specs.Orders.{IsOver}
+use Rattle.order_laws.specs.Outcomes.{AllStand, Stand}
 use Rattle.order_laws.specs.Privacy.{IsPrivate}
 use Rattle.state_search.specs.declared.key.Key.{Key}
 use Rattle.state_search.specs.declared.moves.Found.{Found}
 use Rattle.state_search.specs.declared.moves.Reached.{Reached}
 use Rattle.explored_runs.specs.Booting.{AreFilesOf, boot_of}
+use Rattle.explored_runs.specs.CallSearches.{seen_in}
 use Rattle.replayed_runs.specs.Replays.{seen_after_calls, seen_of}
 use Rattle.replayed_runs.specs.StateKeys.{IsKeyOf}
 use Rattle.order_outcomes.specs.declared.outcome.Outcome.{Outcome}
@@ -23,6 +25,8 @@ use Rattle.explored_runs.specs.declared.runs.Tries.TheVariants as tries
 use Rattle.explored_runs.specs.declared.runs.Tried.{Tried}
 use Rattle.explored_runs.specs.declared.runs.Tried.TheVariants as tried
 use Rattle.explored_runs.specs.declared.visited.VisitedState.{VisitedState}
+use Rattle.explored_runs.specs.declared.visited.Visits.{Visits}
+use Rattle.explored_runs.specs.declared.visited.Visits.TheVariants.{Nothing}
 
 -- the boot of what is explored, where these files stand on its disk
 abbrev pub boot_in : Runs → List NamedFile → Boot
@@ -31,9 +35,16 @@ boot_in r files = boot_of r.programs.now.given.items r.programs.now.tapes.items 
 abbrev pub StandOn : Runs → List NamedFile → Type 0
 StandOn r files = AreFilesOf r.programs.now.disk files
 
+-- what the run of these calls comes to
+abbrev pub seen_of_run : Runs → List NamedFile → List ℕ → Seen
+seen_of_run r files ps = seen_after_calls r.instructions (boot_in r files) ps
+
+abbrev pub seen_in_runs : Runs → List NamedFile → Vec ℕ → Seen
+seen_in_runs r files v = seen_of_run r files v.items
+
 -- The run of these calls was replayed: the programs were booted on some files, which stand on the disk that is given, and then these calls were made.
 pub record IsRunOf (r : Runs) (ps : List ℕ) (x : Replay) : Type 0 where
-  pub seen : seen_of x.core ≡ seen_after_calls r.instructions (boot_in r x.core.boot.files) ps
+  pub seen : seen_of x.core ≡ seen_of_run r x.core.boot.files ps
   pub files : StandOn r x.core.boot.files
   pub limit : x.limit ≡ r.instructions
 
@@ -114,13 +125,31 @@ abbrev pub reached_by_next : Next → List (Reached (Vec ℕ))
 reached_by_next (More rs) = rs.items
 reached_by_next (Over o) = []
 
--- for each of these runs, in their order, it was answered what comes after it, with the keys of the runs of one call more
+-- A state that is visited is that of these calls, which come to s: with the files there, and all that was written to terminal 0.
+pub record IsVisited (ps : List ℕ) (s : Seen) (v : VisitedState) : Type 0 where
+  pub calls : v.calls.items ≡ ps
+  pub files : v.files ≡ s.sync.files.living
+  pub shown : v.shown.items ≡ s.texts 0
+
+-- what is visited of the run of calls ps, which come to s: its state, or nothing where nothing is visited
+abbrev pub IsVisitOf : Visits → List ℕ → Seen → Option VisitedState → Type 0
+IsVisitOf visits ps s None = visits ≡ Nothing
+IsVisitOf visits ps s (Some v) = IsVisited ps s v
+
+-- This was found of the run of calls ps: what comes after it, with the keys of the runs of one call more, and its state, where states are visited. Where it
+-- says so, each process stands there at a call or a trap, or has ended.
+pub record IsAfter (r : Runs) (files : List NamedFile) (ps : List ℕ) (a : After) : Type 0 where
+  pub next : IsNext r.instructions (seen_of_run r files ps) ps a.next
+  pub keys : HaveKeys r (reached_by_next a.next)
+  pub visited : IsVisitOf r.visits ps (seen_of_run r files ps) a.visited
+  pub stands : a.stands ≡ true → Stand (seen_of_run r files ps)
+
+-- and so of each of these runs, in their order
 abbrev pub AreAfter : Runs → List NamedFile → List (Found (Vec ℕ)) → List After → Type 0
 AreAfter r files [] [] = Unit {0}
 AreAfter r files [] (a ∷ more) = ⊥
 AreAfter r files (f ∷ fs) [] = ⊥
-AreAfter r files (f ∷ fs) (a ∷ more) = IsNext r.instructions (seen_after_calls r.instructions (boot_in r files) f.state.items) f.state.items a.next
-    × HaveKeys r (reached_by_next a.next) × AreAfter r files fs more
+AreAfter r files (f ∷ fs) (a ∷ more) = IsAfter r files f.state.items a × AreAfter r files fs more
 
 -- what was found by each share, none of which has a fault, is put together
 abbrev pub AreJoined : {E : Type 0} → List (Result (Vec After) E) → List After → Type 0
@@ -156,16 +185,22 @@ abbrev pub calls_in : List After → List ℕ
 calls_in [] = []
 calls_in (a ∷ more) = calls_by_next a.next ∷ calls_in more
 
+-- whether each process stands so in all their states
+abbrev pub all_stand : List After → Bool
+all_stand [] = true
+all_stand (a ∷ more) = a.stands && all_stand more
+
 -- what came after each of these runs, one after the other, each with its key
 abbrev pub AreAnswered : Runs → List NamedFile → List (Found (Vec ℕ)) → List (Reached (Vec ℕ)) → Type 0
 AreAnswered r files [] next = next ≡ []
 AreAnswered r files (f ∷ fs) next = (own : List (Reached (Vec ℕ))) × (rest : List (Reached (Vec ℕ)))
-    × AreNext r.instructions (seen_after_calls r.instructions (boot_in r files) f.state.items) f.state.items own × HaveKeys r own × (next ≡ own ++ rest)
+    × AreNext r.instructions (seen_in_runs r files f.state) f.state.items own × HaveKeys r own × (next ≡ own ++ rest)
     × AreAnswered r files fs rest
 
--- so a level was answered, whichever files stand on the disk: they are the same in each boot
-abbrev pub Expands : Runs → List (Found (Vec ℕ)) → List (Reached (Vec ℕ)) → Type 0
-Expands r level next = (files : List NamedFile) → StandOn r files → AreAnswered r files level next
+-- So a level was answered, whichever files stand on the disk: they are the same in each boot. Where no move was left out, each process stands at a call or
+-- a trap in each of its states, or has ended.
+abbrev pub Expands : Runs → List (Found (Vec ℕ)) → List (Reached (Vec ℕ)) → Bool → Type 0
+Expands r level next is_whole = (files : List NamedFile) → StandOn r files → AreAnswered r files level next × (is_whole ≡ true → AllStand (seen_in (seen_in_runs r files) level))
 
 -- What is told of these runs is right: of what came after each, in their order, the outcome of each that is over, once; the state of each, where states
 -- are visited; and by how many calls the search goes on from it.

@@ -1,5 +1,5 @@
 -- What an exploration has searched.
-use Rattle.std.specs.Prelude.{◌≡◌, ℕ, List, [], length, Option, Some, None}
+use Rattle.std.specs.Prelude.{◌≡◌, ℕ, true, List, [], length, Option, Some, None}
 use Rattle.std.specs.Global.{Vec}
 use Rattle.state_search.specs.Searches.{IsCut}
 use Rattle.state_search.specs.declared.bounds.Bounds.{Bounds}
@@ -10,18 +10,18 @@ use Rattle.explored_runs.specs.declared.runs.Runs.{Runs}
 use Rattle.order_outcomes.specs.declared.totals.Totals.{Totals}
 use Rattle.explored_runs.specs.declared.visited.Visits.{Visits}
 
--- these runs were searched, and none was left
+-- These runs were searched, none was left, and no move left out. So if keys told their states apart, the outcomes of every run are among them.
 pub record SearchedAll (r : Runs) : Type 0 where
   pub many : ℕ
   pub depth : ℕ
-  pub finds : FindsRuns r many [] depth
+  pub finds : FindsRuns r many [] depth true
 
--- a part of them was searched, and none was left but to other parts
+-- a part of them was searched, none was left but to other parts, and no move left out
 pub record SearchedPart (r : Runs) (part : Part) : Type 0 where
   pub many : ℕ
   pub others : List (Found (Vec ℕ))
   pub depth : ℕ
-  pub finds : FindsPartOfRuns r part.number part.of many [] others depth
+  pub finds : FindsPartOfRuns r part.number part.of many [] others depth true
 
 -- what is asked for: a part, or all
 abbrev pub SearchedBy : Runs → Option Part → Type 0
@@ -37,11 +37,12 @@ pub record Explored (instructions : ℕ) (part : Option Part) : Type 0 where
 abbrev pub bounds_of : ℕ → ℕ → Bounds
 bounds_of states moves = record { states = states; moves = moves }
 
--- These runs were searched, and as many were left as these totals say, by so many calls. Some are left only where a bound cut the search.
+-- These runs were searched, as many were left as these totals say, by so many calls, and a move was left out only if they say so. Some are left only where
+-- a bound cut the search.
 pub record SearchedTo (r : Runs) (t : Totals) (states moves : ℕ) : Type 0 where
   pub many : ℕ
   pub left : List (Found (Vec ℕ))
-  pub finds : FindsRuns r many left t.depth
+  pub finds : FindsRuns r many left t.depth t.is_whole
   pub left_are : t.left ≡ length left
   pub cut : IsCut many left t.depth (bounds_of states moves)
 

@@ -12,7 +12,7 @@ use crate::sorting::{Sorted, sort_out};
 use crate::visited::VisitedState;
 use faults::Fault;
 use order_outcomes::Outcome;
-use state_search::{Bounds, Found, Moves, Part, PartSearched, Reached, Searched};
+use state_search::{Bounds, Expanded, Found, Moves, Part, PartSearched, Reached, Searched};
 use std::alloc::AllocError;
 use std::thread::Threads;
 
@@ -83,7 +83,7 @@ fn ask<R: Threads + Sync>(
     threads: usize,
     states: &[Found<Vec<u32>>],
 ) -> Result<Sorted, Fault>
-    ensures answered { IfOk result (λ sorted. Expands runs.now states.now sorted.reached.items) }
+    ensures answered { IfOk result (λ sorted. Expands runs.now states.now sorted.reached.items sorted.is_whole) }
     ensures told { IfOk result (λ sorted. AreTold runs.now states.now sorted.over.items sorted.visited.items sorted.calls.items) }
 {
     let afters = after_each(rt, runs, threads, states)?;
@@ -102,7 +102,7 @@ impl<'p, L: Listener> Moves for RunSearch<'_, 'p, '_, L> {
 
     ghost begins = { λ r first. IsFirstRun r first };
 
-    ghost expands = { λ r level next. Expands r level next };
+    ghost expands = { λ r level next is_whole. Expands r level next is_whole };
 
     fn first(&mut self) -> Result<Reached<Vec<u32>>, L::Fault> {
         Ok(self.runs.first()?)
@@ -112,8 +112,9 @@ impl<'p, L: Listener> Moves for RunSearch<'_, 'p, '_, L> {
         &mut self,
         rt: &R,
         level: &[Found<Vec<u32>>],
-    ) -> Result<Vec<Reached<Vec<u32>>>, L::Fault> {
+    ) -> Result<Expanded<Vec<u32>>, L::Fault> {
         let mut next = Vec::new(self.runs.alloc);
+        let mut is_whole = true;
         let mut rest = level;
         while !rest.is_empty() {
             let (states, later) = parted(rest, taken_by(self.threads));
@@ -122,8 +123,10 @@ impl<'p, L: Listener> Moves for RunSearch<'_, 'p, '_, L> {
                 over,
                 visited,
                 calls,
+                is_whole: are_whole,
             } = ask(rt, self.runs, self.threads, states)?;
             next.append(&mut reached)?;
+            is_whole = is_whole & are_whole;
             self.listener.hear(
                 rt,
                 Heard {
@@ -138,12 +141,12 @@ impl<'p, L: Listener> Moves for RunSearch<'_, 'p, '_, L> {
             rest = later;
         }
         self.listener.end_level()?;
-        Ok(next)
+        Ok(Expanded { next, is_whole })
     }
 }
 
 /// Searches all runs, by so many threads. If keys told the states apart, it found the end of each complete order of no more calls than its
-/// depth. And if it left no state, it found the outcomes of every run.
+/// depth. And if it left no state, and no move out, it found the outcomes of every run.
 pub fn search_runs<R: Threads + Sync, L: Listener>(
     rt: &R,
     runs: &Runs<'_>,
@@ -151,7 +154,7 @@ pub fn search_runs<R: Threads + Sync, L: Listener>(
     listener: &mut L,
     bounds: Bounds,
 ) -> Result<Searched<Vec<u32>>, L::Fault>
-    ensures finds { IfOk result (λ found. FindsRuns runs.now found.gone_on found.left.items found.depth) }
+    ensures finds { IfOk result (λ found. FindsRuns runs.now found.gone_on found.left.items found.depth found.is_whole) }
     ensures cut { IfOk result (λ found. IsCut found.gone_on found.left.items found.depth bounds) }
     ensures within { IfOk result (λ found. IsWithin found.gone_on found.depth bounds) }
 {
@@ -167,7 +170,7 @@ pub fn search_runs<R: Threads + Sync, L: Listener>(
 }
 
 /// Searches a part of all runs. If keys told the states of all parts apart, it goes on to states of all parts. So where each of them is one
-/// from which some part went on, all parts together found what `search_runs` finds that left no state.
+/// from which some part went on, and no part left a move out, all parts together found what `search_runs` finds that left no state.
 pub fn search_runs_part<R: Threads + Sync, L: Listener>(
     rt: &R,
     runs: &Runs<'_>,
@@ -176,7 +179,7 @@ pub fn search_runs_part<R: Threads + Sync, L: Listener>(
     bounds: Bounds,
     part: Part,
 ) -> Result<PartSearched<Vec<u32>>, L::Fault>
-    ensures finds { IfOk result (λ found. FindsPartOfRuns runs.now part.number part.of found.searched.gone_on found.searched.left.items found.others.items found.searched.depth) }
+    ensures finds { IfOk result (λ found. FindsPartOfRuns runs.now part.number part.of found.searched.gone_on found.searched.left.items found.others.items found.searched.depth found.searched.is_whole) }
     ensures cut { IfOk result (λ found. IsCut found.searched.gone_on found.searched.left.items found.searched.depth bounds) }
     ensures within { IfOk result (λ found. IsWithin found.searched.gone_on found.searched.depth bounds) }
 {

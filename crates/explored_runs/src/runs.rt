@@ -1,9 +1,11 @@
 //! Runs as a search sees them. A run is the processes whose calls lead to it, and is replayed on a copy of a core that was booted.
-ghost use Rattle.std.specs.Prelude.{◌≡◌, ◌<◌, ◌-◌, ◌∷◌, ◌++◌, [], List, length, true, false, IfOk};
+ghost use Rattle.std.specs.Prelude.{◌≡◌, ℕ, ◌<◌, ◌-◌, ◌∷◌, ◌++◌, [], List, length, true, false, IfOk};
 ghost use Rattle.disk_model.specs.declared.change.NamedFile.{NamedFile};
-ghost use Rattle.explored_runs.specs.Answering.{AreTried, HasTriedKey, HaveKeys, HaveTriedKeys, IsCopyOf, IsNext, IsRunOf, IsTried, StandOn, boot_in, calls_by_next, is_idle, reached_by_next, ways, with_each, working};
-ghost use Rattle.replayed_runs.specs.Replays.{seen_after_calls, seen_of};
+ghost use Rattle.explored_runs.specs.Answering.{AreTried, HasTriedKey, HaveKeys, HaveTriedKeys, IsAfter, IsCopyOf, IsNext, IsRunOf, IsTried, IsVisitOf, StandOn, calls_by_next, is_idle, reached_by_next, ways, with_each, working};
+ghost use Rattle.order_laws.specs.Moves.{Seen};
+ghost use Rattle.replayed_runs.specs.Replays.{seen_of};
 ghost use Rattle.explored_runs.specs.RunSearches.{IsFirstRun};
+ghost use Rattle.explored_runs.specs.declared.visited.Visits.{Visits};
 ghost use Rattle.replayed_runs.specs.StateKeys.{IsKeyOf};
 
 use crate::outcome::outcome_of;
@@ -29,6 +31,8 @@ pub enum Next {
 pub struct After {
     /// Its state, where states are visited.
     pub visited: Option<VisitedState>,
+    /// Whether each process stands at a call or a trap, or has ended.
+    pub stands: bool,
     pub next: Next,
 }
 
@@ -109,11 +113,9 @@ fn alone(alloc: Global, reached: Reached<Vec<u32>>) -> Result<Vec<Reached<Vec<u3
 }
 
 /// The state of a run after which this comes, if it is visited. It has its window where that ends there.
-fn as_it_ends(
-    visited: Option<VisitedState>,
-    is_at_sync: bool,
-    next: &Next,
-) -> Option<VisitedState> {
+fn as_it_ends(visited: Option<VisitedState>, is_at_sync: bool, next: &Next) -> Option<VisitedState>
+    ensures { (visits : Visits) (ps : List ℕ) (s : Seen) → IsVisitOf visits ps s visited → IsVisitOf visits ps s result }
+{
     match visited {
         Some(state) => Some(state.with_window_if(is_at_sync || matches!(next, Next::Over(_)))),
         None => None,
@@ -181,7 +183,9 @@ impl Runs<'_> {
     }
 
     /// The state of a run that was replayed, where states are visited.
-    fn visited(&self, calls: &[u32], replay: &Replay) -> Result<Option<VisitedState>, Fault> {
+    fn visited(&self, calls: &[u32], replay: &Replay) -> Result<Option<VisitedState>, Fault>
+        ensures { IfOk result (IsVisitOf self.now.visits calls.now (seen_of replay.now.core)) }
+    {
         if self.visits == Visits::Nothing {
             return Ok(None);
         }
@@ -191,15 +195,15 @@ impl Runs<'_> {
     /// What is found of the run of these calls, which was replayed.
     pub fn after(&self, calls: &[u32], replay: Replay) -> Result<After, Fault>
         requires { IsRunOf self.now calls.now replay }
-        ensures next { IfOk result (λ after. (files : List NamedFile) → StandOn self.now files
-            → IsNext self.now.instructions (seen_after_calls self.now.instructions (boot_in self.now files) calls.now) calls.now after.next) }
-        ensures keys { IfOk result (λ after. HaveKeys self.now (reached_by_next after.next)) }
+        ensures { IfOk result (λ after. (files : List NamedFile) → StandOn self.now files → IsAfter self.now files calls.now after) }
     {
         let visited = self.visited(calls, &replay)?;
         let is_at_sync = replay.is_at_sync();
+        let stands = replay.all_stand();
         let next = self.next(calls, replay)?;
         Ok(After {
             visited: as_it_ends(visited, is_at_sync, &next),
+            stands,
             next,
         })
     }

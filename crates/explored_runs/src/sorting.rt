@@ -1,6 +1,6 @@
 //! What was found of runs, sorted out.
 ghost use Rattle.std.specs.Prelude.{◌≡◌, ◌++◌, IfOk, OnOk, option_to_list};
-ghost use Rattle.explored_runs.specs.Answering.{calls_in, over_by_next, over_in, reached_by_next, reached_in, visited_in};
+ghost use Rattle.explored_runs.specs.Answering.{all_stand, calls_in, over_by_next, over_in, reached_by_next, reached_in, visited_in};
 
 use crate::runs::{After, Next};
 use crate::visited::VisitedState;
@@ -19,6 +19,8 @@ pub struct Sorted {
     pub visited: Vec<VisitedState>,
     /// For each run, by how many calls the search goes on.
     pub calls: Vec<usize>,
+    /// Whether in each of their states each process stands at a call or a trap, or has ended.
+    pub is_whole: bool,
 }
 
 fn add_state(visited: &mut Vec<VisitedState>, state: Option<VisitedState>) -> Result<(), AllocError>
@@ -51,15 +53,19 @@ pub fn sort_out(alloc: Global, afters: Vec<After>) -> Result<Sorted, AllocError>
     ensures over { IfOk result (λ sorted. sorted.over.items ≡ over_in afters.items) }
     ensures visited { IfOk result (λ sorted. sorted.visited.items ≡ visited_in afters.items) }
     ensures calls { IfOk result (λ sorted. sorted.calls.items ≡ calls_in afters.items) }
+    ensures whole { IfOk result (λ sorted. sorted.is_whole ≡ all_stand afters.items) }
 {
     let mut reached = Vec::new(alloc);
     let mut over = Vec::new(alloc);
     let mut visited = Vec::new(alloc);
     let mut calls = Vec::new(alloc);
+    let mut is_whole = true;
     for After {
         visited: state,
+        stands,
         next,
     } in afters {
+        is_whole = is_whole & stands;
         calls.push(next.calls())?;
         add_state(&mut visited, state)?;
         add_next(&mut reached, &mut over, next)?;
@@ -69,5 +75,6 @@ pub fn sort_out(alloc: Global, afters: Vec<After>) -> Result<Sorted, AllocError>
         over,
         visited,
         calls,
+        is_whole,
     })
 }

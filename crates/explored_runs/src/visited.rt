@@ -1,4 +1,9 @@
 //! A state of a search of all orders, as it is visited.
+ghost use Rattle.std.specs.Prelude.{ℕ, List, IfOk};
+ghost use Rattle.explored_runs.specs.Answering.{IsVisited};
+ghost use Rattle.order_laws.specs.Moves.{Seen};
+ghost use Rattle.replayed_runs.specs.Replays.{seen_of};
+
 use crash_lists::Window;
 use files::FileList;
 use replayed_runs::Replay;
@@ -29,7 +34,9 @@ pub struct VisitedState {
 
 impl VisitedState {
     /// The state of a run of these calls, which were replayed. It has its window, whether that ends or not.
-    pub fn of(alloc: Global, calls: &[u32], replay: &Replay) -> Result<VisitedState, AllocError> {
+    pub fn of(alloc: Global, calls: &[u32], replay: &Replay) -> Result<VisitedState, AllocError>
+        ensures { IfOk result (IsVisited calls.now (seen_of replay.now.core)) }
+    {
         let core = &replay.core;
         Ok(VisitedState {
             calls: Vec::from_slice(alloc, calls)?,
@@ -40,7 +47,9 @@ impl VisitedState {
     }
 
     /// The same, with its window only where that ends.
-    pub fn with_window_if(mut self, ends: bool) -> VisitedState {
+    pub fn with_window_if(mut self, ends: bool) -> VisitedState
+        ensures { (ps : List ℕ) (s : Seen) → IsVisited ps s self → IsVisited ps s result }
+    {
         if !ends {
             self.window = None;
         }

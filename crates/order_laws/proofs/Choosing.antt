@@ -6,7 +6,7 @@ use Rattle.std.proofs.lemmas.Bool.{false≢true}
 use Rattle.std.proofs.lemmas.List.{length-append}
 use Rattle.std.proofs.lemmas.List.Elements.{All-nil, All-cons, All-weaker, All-contains}
 use Rattle.order_laws.specs.Orders.{System, reached, Commutes, IsOver, AllWork, IsComplete, IsChoice, HasChosen}
-use Rattle.order_laws.specs.Searches.{Found, HasState, IsSearched, LeftNone}
+use Rattle.order_laws.specs.Searches.{FoundState, HasState, IsSearchOf, LeftNone}
 
 -- What makes a move a private one, where V says of which moves it is said: it does something, and whatever other move is made, the two
 -- are independent, and it stays private.
@@ -171,7 +171,7 @@ module _ {S M L : Type 0} (y : System S M L) (P : S → Type 0) (law : Commutes 
           }
 
     -- ---- what a search found, which went on from each state by a private move, or by each
-    module _ (first : S) (found : List (Found S)) (depth : ℕ) (searched : IsSearched y V first found depth) where
+    module _ (first : S) (found : List (FoundState S)) (depth : ℕ) (searched : IsSearchOf y V first found depth) where
       -- how it went on from a state to which so many moves lead at most
       abbrev FromHere : S → ℕ → Type 0
       FromHere r k = ((m : M) × V r m × HasState found (y.go r m) (k + 1)) ⊎ ((m : M) → y.works (y.label r m) ≡ true → HasState found (y.go r m) (k + 1))
@@ -225,23 +225,23 @@ module _ {S M L : Type 0} (y : System S M L) (P : S → Type 0) (law : Commutes 
 
       -- where it left none, and states grow by moves, it found a state above each that moves come to
       module _ (none : LeftNone found depth) (size : S → ℕ) (grows : (s : S) (m : M) → P s → y.works (y.label s m) ≡ true → size s < size (y.go s m)) where
-        abbrev greatest : List (Found S) → ℕ
+        abbrev greatest : List (FoundState S) → ℕ
         greatest [] = 0
         greatest (f ∷ fs) = max (size f.state) (greatest fs)
 
-        none_greater : (fs : List (Found S)) → All (λ (f : Found S). size f.state ≤ greatest fs) fs
-        none_greater [] = All-nil (λ (f : Found S). size f.state ≤ 0)
+        none_greater : (fs : List (FoundState S)) → All (λ (f : FoundState S). size f.state ≤ greatest fs) fs
+        none_greater [] = All-nil (λ (f : FoundState S). size f.state ≤ 0)
         none_greater (f ∷ fs) =
-            All-cons (λ (g : Found S). size g.state ≤ max (size f.state) (greatest fs)) f fs (let most : size f.state ≤ max (size f.state) (greatest fs) = omega arith in most)
-            (All-weaker (λ (g : Found S). size g.state ≤ greatest fs) (λ (g : Found S). size g.state ≤ max (size f.state) (greatest fs)) (λ g le. omega (arith, le)) fs (none_greater fs))
+            All-cons (λ (g : FoundState S). size g.state ≤ max (size f.state) (greatest fs)) f fs (let most : size f.state ≤ max (size f.state) (greatest fs) = omega arith in most)
+            (All-weaker (λ (g : FoundState S). size g.state ≤ greatest fs) (λ (g : FoundState S). size g.state ≤ max (size f.state) (greatest fs)) (λ g le. omega (arith, le)) fs (none_greater fs))
 
         most : (r : S) (k : ℕ) → HasState found r k → size r ≤ greatest found
-        most r k h = subst (λ (z : S). size z ≤ greatest found) h.same (All-contains (λ (f : Found S). size f.state ≤ greatest found) found h.one (none_greater found) h.is_found)
+        most r k h = subst (λ (z : S). size z ≤ greatest found) h.same (All-contains (λ (f : FoundState S). size f.state ≤ greatest found) found h.one (none_greater found) h.is_found)
 
         module _ (Below : S → S → Type 0) (up : LeadsUp y P V Below) where
           -- a state above this one was found
           abbrev HasAbove : S → Type 0
-          HasAbove x = (f : Found S) × Contains found f × Below x f.state
+          HasAbove x = (f : FoundState S) × Contains found f × Below x f.state
 
           above_from : (fewer : ℕ) (r : S) (k : ℕ) (ms : List M) → P r → HasState found r k → greatest found ≤ size r + fewer → AllWork y r ms → HasAbove (reached y r ms)
           above_from fewer r k [] p h le all = (h.one, h.is_found, subst (λ z. Below z h.one.state) h.same (up.itself h.one.state))

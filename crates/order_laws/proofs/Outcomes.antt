@@ -21,14 +21,14 @@ use Rattle.kernel_laws.proofs.Selected.{step_numbered}
 use Rattle.kernel_model.proofs.Runs.{after_sync, after_log}
 use Rattle.order_laws.specs.Moves.{Seen, first_seen, seen_after, events, calls}
 use Rattle.order_laws.specs.Orders.{IsOver, reached}
-use Rattle.order_laws.specs.Outcomes.{Tells, rested, settled, AreSearched, WasFound, AllStand, HasOutcomes}
+use Rattle.order_laws.specs.Outcomes.{IsSeenOf, rested, settled, AreSearched, WasFound, AllStand, HasOutcomes}
 use Rattle.order_laws.specs.Privacy.{IsPrivate}
 use Rattle.order_laws.proofs.Calls.{calls_commute}
 use Rattle.order_laws.proofs.Choosing.{found_above, found_end, reached-append, those_that_work}
 use Rattle.order_laws.proofs.Private.{stays_private}
 use Rattle.order_laws.proofs.Settling.{AllStop, after_run_rested, covered, event_covers, map_at}
 use Rattle.order_laws.proofs.Upward.{IsBelow, begins_through, grows, total, upward}
-use Rattle.order_laws.specs.Searches.{Found, LeftNone}
+use Rattle.order_laws.specs.Searches.{FoundState, LeftNone}
 
 -- ---- what is seen of a run
 each_from-last : {A : Type 0} (f : Entry → List A) (past log : List Entry) (e : Entry) → each_from f past (log ++ e ∷ []) ≡ each_from f past log ++ given_by (past ++ log) e (f e)
@@ -64,14 +64,14 @@ all_sync : (es : List Event) (s : Seen) → (reached events s es).sync ≡ sync_
 all_sync [] s = refl
 all_sync (e ∷ es) s = all_sync es (seen_after s e)
 
-pub tells : (b : Boot) (es : List Event) → Tells (run_of b es) (reached events (first_seen b) es)
+pub tells : (b : Boot) (es : List Event) → IsSeenOf (run_of b es) (reached events (first_seen b) es)
 tells b es = record {
   sync = all_sync es (first_seen b) ∙ sym (after_sync es (first_world b));
   texts = λ t. all_told es [] (first_seen b) (λ k. refl) t ∙ ap (λ (l : List Entry). contents (printed t l)) (sym (after_log es (first_world b)));
 }
 
 -- ---- the outcomes
-module _ (n : ℕ) (b : Boot) (found : List (Found Seen)) (depth : ℕ) (searched : AreSearched n b found depth)
+module _ (n : ℕ) (b : Boot) (found : List (FoundState Seen)) (depth : ℕ) (searched : AreSearched n b found depth)
     (none : LeftNone found depth) (stand : AllStand found) where
   abbrev start : Seen
   start = settled n (first_seen b)
@@ -83,7 +83,7 @@ module _ (n : ℕ) (b : Boot) (found : List (Found Seen)) (depth : ℕ) (searche
   are = numbered_first b.files
 
   -- above each state that calls come to one was found
-  above : (ps : List ℕ) (s : Seen) → reached (calls n) start ps ≡ settled n s → (f : Found Seen) × Contains found f × IsBelow (settled n s) f.state
+  above : (ps : List ℕ) (s : Seen) → reached (calls n) start ps ≡ settled n s → (f : FoundState Seen) × Contains found f × IsBelow (settled n s) f.state
   above ps s is =
       let a = found_above (calls n) IsNumbered (calls_commute n) IsPrivate (stays_private n) start found depth searched none
       (λ (u : Seen). total u.sync.processes) (grows n) IsBelow (upward n) ps are in

@@ -9,9 +9,9 @@ ghost use Rattle.kernel_model.specs.Limits.{AreNumbered};
 ghost use Rattle.kernel_model.specs.World.{Boot, run_of};
 ghost use Rattle.order_laws.specs.Moves.{Seen, calls, events, first_seen};
 ghost use Rattle.order_laws.specs.Orders.{Commutes, HasChosen, HasSorted, IsChoice, IsComplete, reached};
-ghost use Rattle.order_laws.specs.Outcomes.{AllStand, AreSearched, HasOutcomes, Tells};
+ghost use Rattle.order_laws.specs.Outcomes.{AllStand, AreSearched, HasOutcomes, IsSeenOf};
 ghost use Rattle.order_laws.specs.Privacy.{IsPrivate};
-ghost use Rattle.order_laws.specs.Searches.{Found, HasState, IsSearched, LeftNone};
+ghost use Rattle.order_laws.specs.Searches.{FoundState, HasState, IsSearchOf, LeftNone};
 
 /// A law, the whole of it: every outcome of any run is among those that a complete search of the calls found.
 ///
@@ -30,7 +30,7 @@ ghost use Rattle.order_laws.specs.Searches.{Found, HasState, IsSearched, LeftNon
 /// a run has committed by a crash, one state has just these files, and each terminal there at least what was shown: so crashes ask for no
 /// orders of their own.
 ///
-/// `tells`: what is seen here of a run is the kernel's state, and all that its terminals were written.
+/// `seen`: what is seen here of a run is the kernel's state, and all that its terminals were written.
 ///
 /// The first five hold of each state whose files have their numbers, as they have in each state of a run
 /// (`kernel_model::tables_keep_their_limits`).
@@ -40,10 +40,10 @@ pub fn orders()
     ensures calls { (n : ℕ) (s : Seen) (ps : List ℕ) → AreNumbered s.sync.files → HasSorted (calls n) s ps }
     ensures chosen { (n : ℕ) (chosen : Seen → ℕ → Bool) → IsChoice (calls n) IsPrivate chosen → (s : Seen) (ps : List ℕ) → AreNumbered s.sync.files
         → IsComplete (calls n) s ps → HasChosen (calls n) chosen s ps }
-    ensures once { (n : ℕ) (s : Seen) (found : List (Found Seen)) (depth : ℕ) → IsSearched (calls n) IsPrivate s found depth
+    ensures once { (n : ℕ) (s : Seen) (found : List (FoundState Seen)) (depth : ℕ) → IsSearchOf (calls n) IsPrivate s found depth
         → (ps : List ℕ) → AreNumbered s.sync.files → IsComplete (calls n) s ps → LeftNone found depth ⊎ (length ps ≤ depth)
         → HasState found (reached (calls n) s ps) (length ps) }
-    ensures outcomes { (n : ℕ) (b : Boot) (found : List (Found Seen)) (depth : ℕ) → AreSearched n b found depth → LeftNone found depth
+    ensures outcomes { (n : ℕ) (b : Boot) (found : List (FoundState Seen)) (depth : ℕ) → AreSearched n b found depth → LeftNone found depth
         → AllStand found → (es : List Event) → HasOutcomes n b found es }
-    ensures tells { (b : Boot) (es : List Event) → Tells (run_of b es) (reached events (first_seen b) es) }
+    ensures seen { (b : Boot) (es : List Event) → IsSeenOf (run_of b es) (reached events (first_seen b) es) }
 {}

@@ -1,5 +1,5 @@
 -- Files of parts.
-use Rattle.std.specs.Prelude.{◌≡◌, ℕ, ◌-◌, ◌++◌, Bool, true, false, List, replicate, slice_get, slice_set, Option, Some, None}
+use Rattle.std.specs.Prelude.{◌≡◌, ◌-◌, ◌++◌, Bool, true, false, List, replicate, slice_get, slice_set, Option, Some, None}
 use Rattle.order_outcomes.specs.declared.part_file.PartHead.{PartHead}
 
 -- two parts are of one exploration: of the same programs, under the same limits, and of as many parts

@@ -70,6 +70,8 @@ impl Levels {
             calls: self.calls.saturating_add(last),
             left,
             depth: self.depth,
+            // The files do not have this of a part. A process that runs on is told by an outcome.
+            is_whole: true,
         }
     }
 }

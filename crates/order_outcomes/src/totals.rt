@@ -15,12 +15,15 @@ pub struct Totals {
     pub calls: u64,
     pub left: u64,
     pub depth: u64,
+    /// Whether no process ran on in a state from which the search went on.
+    pub is_whole: bool,
 }
 
 impl Totals {
     pub fn of(searched: &Searched<Vec<u32>>) -> Totals
         ensures left { result.left ≡ length searched.now.left.items }
         ensures depth { result.depth ≡ searched.now.depth }
+        ensures whole { result.is_whole ≡ searched.now.is_whole }
     {
         let left = searched.left.len() as u64;
         Totals {
@@ -28,12 +31,13 @@ impl Totals {
             calls: searched.moves,
             left,
             depth: searched.depth,
+            is_whole: searched.is_whole,
         }
     }
 
     /// Why not all was explored, if it was not: states are left, or else a process runs on.
     fn why_not_all(self, findings: &Findings<'_>) -> Option<ExplorationFault>
-        ensures { result ≡ unexplored self.left self.depth findings.now.runs_on }
+        ensures { result ≡ unexplored self.left self.depth findings.now.runs_on self.is_whole }
     {
         let (left, calls) = (self.left, self.depth);
         if left > 0 {
@@ -41,6 +45,8 @@ impl Totals {
         }
         match findings.runs_on {
             Some(outcome) => Some(ExplorationFault::RunsOn { outcome }),
+            // It does not come to this: a process that runs on does so in each later state, and so in an outcome.
+            None if !self.is_whole => Some(ExplorationFault::Cut { left, calls }),
             None => None,
         }
     }
@@ -63,7 +69,8 @@ impl Totals {
     pub fn test_all(self, findings: &Findings<'_>) -> Result<(), Fault>
         ensures left { IfOk result (λ _. self.left ≡ 0) }
         ensures ends { OnOk result (findings.now.runs_on ≡ None) }
-        ensures refused { OnErr result (is_some (unexplored self.left self.depth findings.now.runs_on) ≡ true) }
+        ensures whole { OnOk result (self.is_whole ≡ true) }
+        ensures refused { OnErr result (is_some (unexplored self.left self.depth findings.now.runs_on self.is_whole) ≡ true) }
     {
         match self.why_not_all(findings) {
             Some(why) => Err(Fault::from(why)),

@@ -1,5 +1,5 @@
 -- Processes that make no call any more.
-use Rattle.std.proofs.Common.{arith, ◌≡◌, ◌∙◌, ◌<◌, ◌≤◌, ℕ, zero, suc, List, map, length, slice_get, Bool, true, false, Option, Some, None, is_some, refl, sym, ap, subst}
+use Rattle.std.proofs.Common.{arith, ◌≡◌, ◌∙◌, ◌<◌, ℕ, zero, suc, List, map, length, slice_get, Bool, true, false, Option, Some, None, is_some, refl, sym, ap, subst}
 use Rattle.std.specs.Prelude.{if◌then◌else◌, option_map, unwrap_or}
 use Rattle.std.proofs.lemmas.Bool.{false≢true}
 use Rattle.std.proofs.lemmas.Option.{slice_get-map}
@@ -20,7 +20,7 @@ pub ended_there : (parts : List Part) (p : ℕ) → is_some (status_in (statuses
 ended_there parts zero ended = absurd (false≢true ended)
 ended_there parts (suc k) ended = omega arith
 
-status_there : (ps : List Process) (k : ℕ) (o : Option Process) → slice_get ps k ≡ o
+pub status_there : (ps : List Process) (k : ℕ) (o : Option Process) → slice_get ps k ≡ o
     → status_in (statuses_of (map part_of ps)) (suc k) ≡ unwrap_or (option_map (λ (part : Part). part.status) (option_map part_of o)) None
 status_there ps k o at =
     ap (λ (x : Option (Option ℕ)). unwrap_or x None)

@@ -4,4 +4,5 @@ mod Footprints
 mod Outputs
 pub mod Owning
 mod Replaying
+mod Standing
 mod Taking

@@ -1,5 +1,5 @@
 -- What the key of a run is made from.
-use Rattle.std.specs.Prelude.{◌≡◌, ℕ, zero, suc, ◌+◌, ◌-◌, ◌++◌, Bool, if◌then◌else◌, List, [], ◌∷◌, length, map, take, drop, slice_get, slice_index, slice_index_or, Option, Some, None, option_map}
+use Rattle.std.specs.Prelude.{◌≡◌, ℕ, zero, suc, ◌+◌, ◌-◌, ◌++◌, if◌then◌else◌, List, [], ◌∷◌, length, map, take, drop, slice_get, slice_index, slice_index_or, Option, Some, None, option_map}
 use Rattle.disk_model.specs.Numbers.{Numbered}
 use Rattle.disk_model.specs.declared.change.NamedFile.{NamedFile}
 use Rattle.kernel_model.specs.Answers.{Kernel, now}

@@ -5,6 +5,7 @@ ghost use Rattle.kernel_model.specs.declared.event.Event.TheVariants.{Enter};
 ghost use Rattle.order_laws.specs.Moves.{calls, label_in, writes_some};
 ghost use Rattle.replayed_runs.specs.Copies.{sums_of, texts_of};
 ghost use Rattle.replayed_runs.specs.Owning.{GoesTo};
+ghost use Rattle.order_laws.specs.Outcomes.{Stand, StandsAt};
 ghost use Rattle.replayed_runs.specs.Replays.{IsRightly, does_something, seen_of, start};
 
 use crate::core_calls::{enter, last_process, run_all, run_on_after};
@@ -119,8 +120,38 @@ impl Replay {
     fn has_ended(&self, pid: u32) -> bool
         ensures there { result ≡ true → 0 < pid }
         ensures idle { result ≡ true → writes_some (label_in (seen_of self.now.core) (Enter pid)) ≡ false }
+        ensures stands { result ≡ true → StandsAt (seen_of self.now.core) pid }
     {
         self.core.tables().processes.status(pid).is_some()
+    }
+
+    /// Whether the machine of a process stands at a call or a trap.
+    fn is_stopped(&self, pid: u32) -> bool
+        ensures { result ≡ true → StandsAt (seen_of self.now.core) pid }
+    {
+        match self.core.machine(pid) {
+            Ok(machine) => machine.stopped().is_some(),
+            Err(_) => true,
+        }
+    }
+
+    /// Whether a process stands at a call or a trap, or has ended.
+    fn stands(&self, pid: u32) -> bool
+        ensures { result ≡ true → StandsAt (seen_of self.now.core) pid }
+    {
+        self.has_ended(pid) || self.is_stopped(pid)
+    }
+
+    /// Whether all processes do. One that does not ran as far as it may.
+    pub fn all_stand(&self) -> bool
+        ensures { result ≡ true → Stand (seen_of self.now.core) }
+    {
+        for place in 0..self.last_process() {
+            if !self.stands(place + 1) {
+                return false;
+            }
+        }
+        true
     }
 
     /// The last process that has not ended, or 0 where all have. Those after it make no call any more.

@@ -1,8 +1,8 @@
 -- How a search begins, goes on by a level, and leaves states to other parts.
-use Rattle.std.proofs.Common.{arith, ◌≡◌, ◌⊎◌, ◌∙◌, ◌++◌, ◌∷◌, [], ◌+◌, ◌<◌, ◌≤◌, ℕ, List, length, false, sym, ap, subst, inl, inr}
+use Rattle.std.proofs.Common.{arith, ◌≡◌, ◌⊎◌, ◌∙◌, ◌++◌, ◌∷◌, [], ◌+◌, ◌<◌, ◌≤◌, ◌&&◌, ℕ, List, length, Bool, true, false, sym, ap, subst, inl, inr}
 use Rattle.std.specs.List.{Contains}
 use Rattle.std.specs.HashSet.{HashSet}
-use Rattle.std.proofs.lemmas.List.{length-append}
+use Rattle.std.proofs.lemmas.Bool.{and_parts}
 use Rattle.std.proofs.lemmas.List.Elements.{Contains-append_left, Contains-append_right, Contains-append_cases, Contains-push, Contains-push_cases}
 use Rattle.state_search.specs.Adding.{AreAdded, one_if}
 use Rattle.state_search.specs.Going.{AreLeft, IsGoing, IsParted}
@@ -25,7 +25,7 @@ only-one {X = X} x y is = by-cases (Contains-push_cases [] x y is)
     by-cases (inl none) = absurd (none-in y none)
     by-cases (inr same) = same
 
-module _ {S Z : Type 0} (begins : Reached S → Type 0) (expands : List (Found S) → List (Reached S) → Type 0) (none known : HashSet Key Z) (r : Reached S)
+module _ {S Z : Type 0} (begins : Reached S → Type 0) (expands : List (Found S) → List (Reached S) → Bool → Type 0) (none known : HashSet Key Z) (r : Reached S)
     (left : List (Found S)) (empty : (k : Key) → has none k ≡ false) (adds : AreAdded none known (r ∷ []) left 0) (is_first : begins r) where
   knows-first : (k : Key) → times k left ≡ one_if (has known k)
   knows-first k = let counts = adds.counts k in let none-there = ap one_if (empty k) in omega (arith, counts, none-there)
@@ -47,7 +47,7 @@ module _ {S Z : Type 0} (begins : Reached S → Type 0) (expands : List (Found S
       }
 
   -- the first state alone
-  pub begins-with : IsGoing begins expands known [] left [] 0
+  pub begins-with : IsGoing begins expands known [] left [] 0 true
   begins-with = record {
     searched = record {
       first = r;
@@ -67,6 +67,7 @@ module _ {S Z : Type 0} (begins : Reached S → Type 0) (expands : List (Found S
       once = λ k. at-most-once (times k left) (has known k) (knows-first k);
     };
     knows = knows-first;
+    whole = λ _ a is. absurd (none-in a is);
   }
 
 module _ {S : Type 0} (others xs ys : List (Found S)) where
@@ -93,9 +94,9 @@ module _ {S : Type 0} (others xs ys : List (Found S)) where
   still-found : (k : Key) (most : ℕ) → HasKey (others ++ xs) k most → HasKey (others ++ (xs ++ ys)) k most
   still-found k most h = record { one = h.one; is_found = still-there h.one h.is_found; same_key = h.same_key; near = h.near }
 
-module _ {S Z : Type 0} (begins : Reached S → Type 0) (expands : List (Found S) → List (Reached S) → Type 0) (old new : HashSet Key Z)
-    (gone left others added : List (Found S)) (next : List (Reached S)) (depth : ℕ)
-    (going : IsGoing begins expands old gone left others depth) (expanded : expands left next) (adds : AreAdded old new next added (depth + 1)) where
+module _ {S Z : Type 0} (begins : Reached S → Type 0) (expands : List (Found S) → List (Reached S) → Bool → Type 0) (old new : HashSet Key Z)
+    (gone left others added : List (Found S)) (next : List (Reached S)) (depth : ℕ) (was_whole is_whole : Bool)
+    (going : IsGoing begins expands old gone left others depth was_whole) (expanded : expands left next is_whole) (adds : AreAdded old new next added (depth + 1)) where
   abbrev before : List (Found S)
   before = gone ++ left
 
@@ -115,7 +116,7 @@ module _ {S Z : Type 0} (begins : Reached S → Type 0) (expands : List (Found S
   was = going.searched.found
 
   abbrev now : Answer S
-  now = record { level = left; next = next }
+  now = record { level = left; next = next; is_whole = is_whole }
 
   abbrev answers : List (Answer S)
   answers = going.searched.answers ++ now ∷ []
@@ -188,13 +189,13 @@ module _ {S Z : Type 0} (begins : Reached S → Type 0) (expands : List (Found S
       by-cases (inr late) = inr (came-added f late)
 
   -- by one level more
-  pub goes-on : IsGoing begins expands new before added others (depth + 1)
+  pub goes-on : IsGoing begins expands new before added others (depth + 1) (was_whole && is_whole)
   goes-on = record {
     searched = record {
       first = going.searched.first;
       is_first = going.searched.is_first;
       answers = answers;
-      are_answers = by-answer (λ a. expands a.level a.next) going.searched.are_answers expanded;
+      are_answers = by-answer (λ a. expands a.level a.next a.is_whole) going.searched.are_answers expanded;
       found = record {
         begins = still-found others before added going.searched.first.key 0 was.begins;
         levels = by-answer (λ a. (f : Found S) → Contains a.level f → Contains (gone ++ left) f)
@@ -210,10 +211,11 @@ module _ {S Z : Type 0} (begins : Reached S → Type 0) (expands : List (Found S
       once = λ k. at-most-once (times k all) (has new k) (knows-now k);
     };
     knows = knows-now;
+    whole = λ both. let parts = and_parts was_whole is_whole both in by-answer (λ a. a.is_whole ≡ true) (going.whole (parts.0)) parts.1;
   }
 
-module _ {S Z : Type 0} (begins : Reached S → Type 0) (expands : List (Found S) → List (Reached S) → Type 0) (known : HashSet Key Z)
-    (gone left others own more : List (Found S)) (depth : ℕ) (going : IsGoing begins expands known gone left others depth) (parted : IsParted left own more) where
+module _ {S Z : Type 0} (begins : Reached S → Type 0) (expands : List (Found S) → List (Reached S) → Bool → Type 0) (known : HashSet Key Z)
+    (gone left others own more : List (Found S)) (depth : ℕ) (is_whole : Bool) (going : IsGoing begins expands known gone left others depth is_whole) (parted : IsParted left own more) where
   abbrev found : List (Found S)
   found = others ++ (gone ++ left)
 
@@ -269,7 +271,7 @@ module _ {S Z : Type 0} (begins : Reached S → Type 0) (expands : List (Found S
   ]
 
   -- a part leaves those of the last level that are not its own
-  leaves-others : IsGoing begins expands known gone own (others ++ more) depth
+  leaves-others : IsGoing begins expands known gone own (others ++ more) depth is_whole
   leaves-others = record {
     searched = record {
       first = going.searched.first;
@@ -289,15 +291,16 @@ module _ {S Z : Type 0} (begins : Reached S → Type 0) (expands : List (Found S
       once = λ k. at-most-once (times k shared) (has known k) (knows-shared k);
     };
     knows = knows-shared;
+    whole = going.whole;
   }
 
-module _ {S Z : Type 0} (begins : Reached S → Type 0) (expands : List (Found S) → List (Reached S) → Type 0) (known known_now : HashSet Key Z)
-    (many : ℕ) (gone left others : List (Found S)) (many_now : ℕ) (own others_now : List (Found S)) (depth : ℕ) where
+module _ {S Z : Type 0} (begins : Reached S → Type 0) (expands : List (Found S) → List (Reached S) → Bool → Type 0) (known known_now : HashSet Key Z)
+    (many : ℕ) (gone left others : List (Found S)) (many_now : ℕ) (own others_now : List (Found S)) (depth : ℕ) (is_whole : Bool) where
   -- so it goes on where states were left
-  pub goes-on-left : IsGoing begins expands known gone left others depth → AreLeft known known_now many left others many_now own others_now
-      → IsGoing begins expands known_now gone own others_now depth
+  pub goes-on-left : IsGoing begins expands known gone left others depth is_whole → AreLeft known known_now many left others many_now own others_now
+      → IsGoing begins expands known_now gone own others_now depth is_whole
   goes-on-left going are =
-      let all = leaves-others begins expands known gone left others own are.more depth going are.parted in
+      let all = leaves-others begins expands known gone left others own are.more depth is_whole going are.parted in
       rw (are.known, are.others_are) all
 
 -- a part goes on from no more states than there may be
@@ -309,6 +312,7 @@ within-left old new many left others many_now own others_now most are few =
     omega (arith, same, size, few)
 
 -- a search that left nothing to others says how many states it went on from
-pub has-part : {S Z : Type 0} (begins : Reached S → Type 0) (expands : List (Found S) → List (Reached S) → Type 0) (known : HashSet Key Z) (many : ℕ)
-    (gone left others : List (Found S)) (depth : ℕ) → length gone ≡ many → IsGoing begins expands known gone left others depth → HasPart begins expands many left others depth
-has-part begins expands known many gone left others depth are going = record { gone_on = gone; are_many = are; part = going.searched }
+pub has-part : {S Z : Type 0} (begins : Reached S → Type 0) (expands : List (Found S) → List (Reached S) → Bool → Type 0) (known : HashSet Key Z) (many : ℕ)
+    (gone left others : List (Found S)) (depth : ℕ) (is_whole : Bool) → length gone ≡ many → IsGoing begins expands known gone left others depth is_whole
+    → HasPart begins expands many left others depth is_whole
+has-part begins expands known many gone left others depth is_whole are going = record { gone_on = gone; are_many = are; part = going.searched; whole = going.whole }

@@ -1,13 +1,13 @@
 -- Of a level that is shared out each state is some part's own.
-use Rattle.std.proofs.Common.{arith, ◌≡◌, ◌⊎◌, ◌∙◌, ◌++◌, ◌∷◌, [], ◌+◌, ◌==◌, ◌≤◌, ◌&&◌, nat_le, ℕ, List, Bool, true, false, length, refl, sym, ap, subst, inl, inr}
+use Rattle.std.proofs.Common.{arith, ◌≡◌, ◌⊎◌, ◌∙◌, ◌++◌, ◌∷◌, [], ◌+◌, ◌==◌, ◌≤◌, nat_le, ℕ, List, Bool, true, false, length, refl, sym, subst, inl, inr}
 use Rattle.std.specs.Prelude.{if◌then◌else◌}
 use Rattle.std.specs.List.{Contains}
 use Rattle.std.specs.HashSet.{HashSet}
 use Rattle.std.proofs.lemmas.Bool.{and_parts, eq-eqb, false≢true, leb-false, ne_eqb}
 use Rattle.std.proofs.lemmas.List.Elements.{Contains-append_left, Contains-append_right, Contains-append_cases, Contains-push, Contains-push_cases}
 use Rattle.state_search.specs.Going.{IsGoing, is_enough, is_shared_out, kept_by, left_by}
-use Rattle.state_search.specs.Searches.{IsPart}
-use Rattle.state_search.specs.Sharing.{IsAnothers, IsShared, next_turn, others_from, own_from}
+use Rattle.state_search.specs.Searches.{HasPart}
+use Rattle.state_search.specs.Sharing.{IsShared, next_turn, others_from, own_from}
 use Rattle.state_search.specs.declared.key.Key.{Key}
 use Rattle.state_search.specs.declared.moves.Found.{Found}
 use Rattle.state_search.specs.declared.moves.Reached.{Reached}
@@ -89,8 +89,8 @@ module _ {S : Type 0} where
   anothers number of turn (g ∷ fs) f some is_of is =
       anothers-here number of turn g fs f is_of (λ there. anothers number of (next_turn of turn) fs f some (turn-of of turn some is_of) there) (turn == number) refl is
 
-module _ {S Z : Type 0} (begins : Reached S → Type 0) (expands : List (Found S) → List (Reached S) → Type 0) (known : HashSet Key Z) (number of many : ℕ)
-    (gone left others : List (Found S)) (depth : ℕ) (going : IsGoing begins expands known gone left others depth) (are_many : length gone ≡ many)
+module _ {S Z : Type 0} (begins : Reached S → Type 0) (expands : List (Found S) → List (Reached S) → Bool → Type 0) (known : HashSet Key Z) (number of many : ℕ)
+    (gone left others : List (Found S)) (depth : ℕ) (is_whole : Bool) (going : IsGoing begins expands known gone left others depth is_whole) (are_many : length gone ≡ many)
     (shared : (others ≡ []) ⊎ IsShared begins expands number of gone others) where
   -- it went on from what it keeps too
   still-shared : (own : List (Found S)) → (others ≡ []) ⊎ IsShared begins expands number of (gone ++ own) others
@@ -100,6 +100,7 @@ module _ {S Z : Type 0} (begins : Reached S → Type 0) (expands : List (Found S
       many = is.many;
       level = is.level;
       depth = is.depth;
+      is_whole = is.is_whole;
       whole = is.whole;
       own = λ f mine. Contains-append_left gone own f (is.own f mine);
       anothers = is.anothers;
@@ -114,7 +115,9 @@ module _ {S Z : Type 0} (begins : Reached S → Type 0) (expands : List (Found S
     many = many;
     level = left;
     depth = depth;
-    whole = record { gone_on = gone; are_many = are_many; part = subst (λ (fs : List (Found S)). IsPart begins expands gone left fs depth) none going.searched };
+    is_whole = is_whole;
+    whole = subst (λ (fs : List (Found S)). HasPart begins expands many left fs depth is_whole) none
+        (record { gone_on = gone; are_many = are_many; part = going.searched; whole = going.whole });
     own = λ f mine. Contains-append_right gone (own_from number of 1 left) f mine;
     anothers = λ some f is.
         let theirs = subst (λ (fs : List (Found S)). Contains (fs ++ others_from number of 1 left) f) none is in

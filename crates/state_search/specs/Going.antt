@@ -1,19 +1,21 @@
 -- A search that goes on, or a part of one.
-use Rattle.std.specs.Prelude.{◌≡◌, ℕ, ◌+◌, ◌*◌, ◌==◌, ◌&&◌, nat_le, Bool, if◌then◌else◌, List, length, [], ◌∷◌, ◌++◌, ◌⊎◌}
+use Rattle.std.specs.Prelude.{◌≡◌, ℕ, ◌+◌, ◌*◌, ◌==◌, ◌&&◌, nat_le, Bool, true, if◌then◌else◌, List, length, ◌++◌, ◌⊎◌}
 use Rattle.std.specs.List.{Contains}
 use Rattle.std.specs.HashSet.{HashSet}
 use Rattle.state_search.specs.Adding.{one_if}
 use Rattle.state_search.specs.Keys.{has}
-use Rattle.state_search.specs.Searches.{IsPart, times}
+use Rattle.state_search.specs.Searches.{AreWhole, IsPart, times}
 use Rattle.state_search.specs.Sharing.{others_from, own_from}
 use Rattle.state_search.specs.declared.key.Key.{Key}
 use Rattle.state_search.specs.declared.moves.Found.{Found}
 use Rattle.state_search.specs.declared.moves.Reached.{Reached}
 
--- it is a search up to this depth, and the keys that are known are those of the states that it found, each once
-pub record IsGoing {S Z : Type 0} (begins : Reached S → Type 0) (expands : List (Found S) → List (Reached S) → Type 0) (known : HashSet Key Z) (gone_on left others : List (Found S)) (depth : ℕ) : Type 0 where
+-- it is a search up to this depth, the keys that are known are those of the states that it found, each once, and it says whether
+-- no move was left out
+pub record IsGoing {S Z : Type 0} (begins : Reached S → Type 0) (expands : List (Found S) → List (Reached S) → Bool → Type 0) (known : HashSet Key Z) (gone_on left others : List (Found S)) (depth : ℕ) (is_whole : Bool) : Type 0 where
   pub searched : IsPart begins expands gone_on left others depth
   pub knows : (k : Key) → times k (others ++ (gone_on ++ left)) ≡ one_if (has known k)
+  pub whole : is_whole ≡ true → AreWhole searched.answers
 
 -- states are parted: each is one's own or another's, but not both, and no other is either
 pub record IsParted {S : Type 0} (all mine theirs : List (Found S)) : Type 0 where

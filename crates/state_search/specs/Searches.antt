@@ -1,5 +1,5 @@
 -- When a search has left nothing out.
-use Rattle.std.specs.Prelude.{◌≡◌, ℕ, suc, ◌+◌, ◌<◌, ◌≤◌, ◌⊎◌, if◌then◌else◌, List, [], ◌∷◌, ◌++◌, length}
+use Rattle.std.specs.Prelude.{◌≡◌, ℕ, suc, Bool, true, ◌+◌, ◌<◌, ◌≤◌, ◌⊎◌, if◌then◌else◌, List, [], ◌∷◌, ◌++◌, length}
 use Rattle.std.specs.List.{Contains}
 use Rattle.state_search.specs.Keys.{is_same}
 use Rattle.state_search.specs.declared.bounds.Bounds.{Bounds}
@@ -12,10 +12,15 @@ abbrev pub times : {S : Type 0} → Key → List (Found S) → ℕ
 times k [] = 0
 times k (f ∷ fs) = if is_same f.key k then suc (times k fs) else times k fs
 
--- the states that are next to a level were asked for, and these were answered
+-- the states that are next to a level were asked for, and these were answered, and whether no move was left out
 pub record Answer (S : Type 0) : Type 0 where
   pub level : List (Found S)
   pub next : List (Reached S)
+  pub is_whole : Bool
+
+-- no move was left out of these answers
+abbrev pub AreWhole : {S : Type 0} → List (Answer S) → Type 0
+AreWhole {S = S} answers = (a : Answer S) → Contains answers a → a.is_whole ≡ true
 
 -- one of the states that were found has this key, and was found by at most so many moves
 pub record HasKey {S : Type 0} (found : List (Found S)) (k : Key) (most : ℕ) : Type 0 where
@@ -65,26 +70,28 @@ pub record ComesOf {S : Type 0} (first : Reached S) (answers : List (Answer S)) 
 
 -- A part of a search to depth `depth`: the first state was asked for, and those next to each level from which it went on, and the states that were
 -- found are what comes of this, each once. Those of `others` it left to other parts.
-pub record IsPart {S : Type 0} (begins : Reached S → Type 0) (expands : List (Found S) → List (Reached S) → Type 0) (gone_on left others : List (Found S)) (depth : ℕ) : Type 0 where
+pub record IsPart {S : Type 0} (begins : Reached S → Type 0) (expands : List (Found S) → List (Reached S) → Bool → Type 0) (gone_on left others : List (Found S)) (depth : ℕ) : Type 0 where
   pub first : Reached S
   pub is_first : begins first
   pub answers : List (Answer S)
-  pub are_answers : (a : Answer S) → Contains answers a → expands a.level a.next
+  pub are_answers : (a : Answer S) → Contains answers a → expands a.level a.next a.is_whole
   pub found : ComesOf first answers gone_on left others depth
   pub once : (k : Key) → times k (others ++ (gone_on ++ left)) ≤ 1
 
 -- A search to depth `depth` is its only part.
-abbrev pub IsSearched : {S : Type 0} → (Reached S → Type 0) → (List (Found S) → List (Reached S) → Type 0) → List (Found S) → List (Found S) → ℕ → Type 0
+abbrev pub IsSearched : {S : Type 0} → (Reached S → Type 0) → (List (Found S) → List (Reached S) → Bool → Type 0) → List (Found S) → List (Found S) → ℕ → Type 0
 IsSearched begins expands gone_on left depth = IsPart begins expands gone_on left [] depth
 
--- A part of a search that says of the states from which it went on how many they are, and keeps none of them.
-pub record HasPart {S : Type 0} (begins : Reached S → Type 0) (expands : List (Found S) → List (Reached S) → Type 0) (many : ℕ) (left others : List (Found S)) (depth : ℕ) : Type 0 where
+-- A part of a search that says of the states from which it went on how many they are, and keeps none of them. It also says whether no move was left
+-- out of the answers.
+pub record HasPart {S : Type 0} (begins : Reached S → Type 0) (expands : List (Found S) → List (Reached S) → Bool → Type 0) (many : ℕ) (left others : List (Found S)) (depth : ℕ) (is_whole : Bool) : Type 0 where
   pub gone_on : List (Found S)
   pub are_many : length gone_on ≡ many
   pub part : IsPart begins expands gone_on left others depth
+  pub whole : is_whole ≡ true → AreWhole part.answers
 
-abbrev pub HasSearched : {S : Type 0} → (Reached S → Type 0) → (List (Found S) → List (Reached S) → Type 0) → ℕ → List (Found S) → ℕ → Type 0
-HasSearched begins expands many left depth = HasPart begins expands many left [] depth
+abbrev pub HasSearched : {S : Type 0} → (Reached S → Type 0) → (List (Found S) → List (Reached S) → Bool → Type 0) → ℕ → List (Found S) → ℕ → Bool → Type 0
+HasSearched begins expands many left depth is_whole = HasPart begins expands many left [] depth is_whole
 
 -- how many states were found
 abbrev pub count_of : {S : Type 0} → ℕ → List (Found S) → ℕ

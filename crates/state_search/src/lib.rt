@@ -14,7 +14,7 @@ mod state_digest;
 
 pub use bounds::Bounds;
 pub use key::Key;
-pub use moves::{Found, Moves, Reached};
+pub use moves::{Expanded, Found, Moves, Reached};
 pub use parts::Part;
 pub use searching::{PartSearched, Searched, search, search_part};
 pub use state_digest::StateDigest;

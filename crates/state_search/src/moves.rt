@@ -20,9 +20,18 @@ pub struct Found<S> {
     pub moves: u64,
 }
 
+/// What was answered for some states.
+#[derive(Drop)]
+pub struct Expanded<S> {
+    /// All states that are next to one of them.
+    pub next: Vec<Reached<S>>,
+    /// Whether no move was left out.
+    pub is_whole: bool,
+}
+
 /// States, and the moves that lead from each to those next to it.
 pub trait Moves {
-    ghost use Rattle.std.specs.Prelude.{List};
+    ghost use Rattle.std.specs.Prelude.{Bool, List};
     ghost use Rattle.state_search.specs.declared.moves.Found.{Found};
     ghost use Rattle.state_search.specs.declared.moves.Reached.{Reached};
     ghost use denote.Param.Send.{IsSync};
@@ -40,8 +49,8 @@ pub trait Moves {
     // What may be answered for the first state.
     ghost begins: { Self.Space → Reached Self.State → Type 0 };
 
-    // What may be answered for the states that are next to those of a level.
-    ghost expands: { Self.Space → List (Found Self.State) → List (Reached Self.State) → Type 0 };
+    // What may be answered for the states that are next to those of a level, and whether no move was left out.
+    ghost expands: { Self.Space → List (Found Self.State) → List (Reached Self.State) → Bool → Type 0 };
 
     /// The first state.
     fn first(&mut self) -> Result<Reached<Self::State>, Self::Fault>
@@ -54,8 +63,8 @@ pub trait Moves {
         &mut self,
         rt: &R,
         level: &[Found<Self::State>],
-    ) -> Result<Vec<Reached<Self::State>>, Self::Fault>
+    ) -> Result<Expanded<Self::State>, Self::Fault>
         requires { IsSync R.row }
-        ensures expands { IfOk result (λ next. expands (space self.old) level.now next.items) }
+        ensures expands { IfOk result (λ expanded. expands (space self.old) level.now expanded.next.items expanded.is_whole) }
         ensures space { space self.new ≡ space self.old };
 }

@@ -9,7 +9,7 @@ ghost use Rattle.state_search.specs.declared.moves.Found.{Found};
 
 use crate::bounds::Bounds;
 use crate::keys::Keys;
-use crate::moves::{Found, Moves, Reached};
+use crate::moves::{Expanded, Found, Moves, Reached};
 use crate::parts::{Part, Parted};
 use std::alloc::{AllocError, Global};
 use std::thread::Threads;
@@ -25,6 +25,8 @@ pub struct Searched<S> {
     pub depth: u64,
     /// How many moves it tried that lead somewhere.
     pub moves: u64,
+    /// Whether no move was left out of what it was answered.
+    pub is_whole: bool,
 }
 
 /// What a part of a search found.
@@ -85,7 +87,7 @@ fn begin<M: Moves>(alloc: Global, moves: &mut M) -> Result<Going<M::State>, M::F
     ensures alone { IfOk result (λ going. going.others.items ≡ []) }
     ensures here { IfOk result (λ going. (going.searched.depth ≡ 0) × (going.searched.gone_on ≡ 0)) }
     ensures space { M.space moves.new ≡ M.space moves.old }
-    ensures going { IfOk result (λ going. IsGoing (M.begins (M.space moves.old)) (M.expands (M.space moves.old)) going.known.set [] going.searched.left.items going.others.items going.searched.depth) }
+    ensures going { IfOk result (λ going. IsGoing (M.begins (M.space moves.old)) (M.expands (M.space moves.old)) going.known.set [] going.searched.left.items going.others.items going.searched.depth going.searched.is_whole) }
 {
     let reached = alone(alloc, moves.first()?)?;
     let mut known = Keys::new(alloc);
@@ -95,6 +97,7 @@ fn begin<M: Moves>(alloc: Global, moves: &mut M) -> Result<Going<M::State>, M::F
         left,
         depth: 0,
         moves: 0,
+        is_whole: true,
     };
     Ok(Going {
         known,
@@ -130,6 +133,7 @@ fn leave_others<S: Drop>(alloc: Global, going: Going<S>, part: Part) -> Result<G
     ensures own { IfOk result (λ next. next.searched.left.items ≡ kept_by part.number part.of going.others.items going.searched.left.items) }
     ensures others { IfOk result (λ next. next.others.items ≡ left_by part.number part.of going.others.items going.searched.left.items) }
     ensures depth { IfOk result (λ next. next.searched.depth ≡ going.searched.depth) }
+    ensures whole { IfOk result (λ next. next.searched.is_whole ≡ going.searched.is_whole) }
 {
     if !going.is_shared_out(part) {
         return Ok(going);
@@ -144,6 +148,7 @@ fn leave_others<S: Drop>(alloc: Global, going: Going<S>, part: Part) -> Result<G
         left,
         depth,
         moves,
+        is_whole,
     } = searched;
     let Parted {
         own,
@@ -155,6 +160,7 @@ fn leave_others<S: Drop>(alloc: Global, going: Going<S>, part: Part) -> Result<G
         left: own,
         depth,
         moves,
+        is_whole,
     };
     Ok(Going {
         known,
@@ -176,8 +182,8 @@ fn go_on<M: Moves, R: Threads + Sync>(
     ensures deeper { IfOk result (λ next. next.searched.depth ≡ going.searched.depth + 1) }
     ensures gone { IfOk result (λ next. next.searched.gone_on ≡ going.searched.gone_on + length going.searched.left.items) }
     ensures space { M.space moves.new ≡ M.space moves.old }
-    ensures going { IfOk result (λ next. (gone_on : List (Found M.State)) → IsGoing (M.begins (M.space moves.old)) (M.expands (M.space moves.old)) going.known.set gone_on going.searched.left.items going.others.items going.searched.depth
-        → IsGoing (M.begins (M.space moves.old)) (M.expands (M.space moves.old)) next.known.set (gone_on ++ going.searched.left.items) next.searched.left.items next.others.items next.searched.depth) }
+    ensures going { IfOk result (λ next. (gone_on : List (Found M.State)) → IsGoing (M.begins (M.space moves.old)) (M.expands (M.space moves.old)) going.known.set gone_on going.searched.left.items going.others.items going.searched.depth going.searched.is_whole
+        → IsGoing (M.begins (M.space moves.old)) (M.expands (M.space moves.old)) next.known.set (gone_on ++ going.searched.left.items) next.searched.left.items next.others.items next.searched.depth next.searched.is_whole) }
 {
     let Going {
         mut known,
@@ -189,8 +195,12 @@ fn go_on<M: Moves, R: Threads + Sync>(
         left,
         depth,
         moves: tried,
+        is_whole: was_whole,
     } = searched;
-    let reached = moves.expand(rt, left.as_slice())?;
+    let Expanded {
+        next: reached,
+        is_whole,
+    } = moves.expand(rt, left.as_slice())?;
     let tried = tried.saturating_add(reached.len() as u64);
     let next = add_all(alloc, &mut known, reached, depth + 1)?;
     let searched = Searched {
@@ -198,6 +208,7 @@ fn go_on<M: Moves, R: Threads + Sync>(
         left: next,
         depth: depth + 1,
         moves: tried,
+        is_whole: was_whole & is_whole,
     };
     Ok(Going {
         known,
@@ -215,7 +226,7 @@ pub fn search<M: Moves, R: Threads + Sync>(
     moves: &mut M,
     bounds: Bounds,
 ) -> Result<Searched<M::State>, M::Fault>
-    ensures searched { IfOk result (λ found. HasSearched (M.begins (M.space moves.old)) (M.expands (M.space moves.old)) found.gone_on found.left.items found.depth) }
+    ensures searched { IfOk result (λ found. HasSearched (M.begins (M.space moves.old)) (M.expands (M.space moves.old)) found.gone_on found.left.items found.depth found.is_whole) }
     ensures cut { IfOk result (λ found. IsCut found.gone_on found.left.items found.depth bounds) }
     ensures within { IfOk result (λ found. IsWithin found.gone_on found.depth bounds) }
 {
@@ -241,7 +252,7 @@ pub fn search_part<M: Moves, R: Threads + Sync>(
     bounds: Bounds,
     part: Part,
 ) -> Result<PartSearched<M::State>, M::Fault>
-    ensures part { IfOk result (λ found. HasShare (M.begins (M.space moves.old)) (M.expands (M.space moves.old)) part.number part.of found.searched.gone_on found.searched.left.items found.others.items found.searched.depth) }
+    ensures part { IfOk result (λ found. HasShare (M.begins (M.space moves.old)) (M.expands (M.space moves.old)) part.number part.of found.searched.gone_on found.searched.left.items found.others.items found.searched.depth found.searched.is_whole) }
     ensures cut { IfOk result (λ found. IsCut found.searched.gone_on found.searched.left.items found.searched.depth bounds) }
     ensures within { IfOk result (λ found. IsWithin found.searched.gone_on found.searched.depth bounds) }
 {

@@ -21,5 +21,5 @@ returns _ = record {
   once = λ n s found depth searched ps are complete deep.
       found_end (calls n) (λ (r : Seen). AreNumbered r.sync.files) (calls_commute n) IsPrivate (stays_private n) s found depth searched ps are complete deep;
   outcomes = λ n b found depth searched none stand es. outcomes n b found depth searched none stand es;
-  tells = tells;
+  seen = tells;
 }

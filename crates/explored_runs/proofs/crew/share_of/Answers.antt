@@ -12,8 +12,8 @@ loop-found-preserved c = record {
   answered = λ files stand.
       let r = c.args.runs.now in
       let f = c.found-item.result in
-      let next = rw c.as_slice-calls.ensures.value at c.in_ok-after.ensures.next files stand in
-      let more = one_more r files _ c.loop-found.afters.items f c.in_ok-after.field-0 (c.loop-found.invariant.answered files stand) (next, c.in_ok-after.ensures.keys) in
+      let after = rw c.as_slice-calls.ensures.value at c.in_ok-after.ensures files stand in
+      let more = one_more r files _ c.loop-found.afters.items f c.in_ok-after.field-0 (c.loop-found.invariant.answered files stand) after in
       let taken = next_taken c.args.share.now c.loop-found.found-index f c.loop-found-test.true c.found-item.is in
       rw (c.in_ok-push.ensures.items, taken) more;
   kept = c.in_ok-replay.ensures.kept;

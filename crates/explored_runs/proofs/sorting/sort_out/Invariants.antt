@@ -1,6 +1,6 @@
 -- So far it is what is in what was found so far.
 use Rattle.std.proofs.Common.{◌≡◌}
-use Rattle.explored_runs.specs.Answering.{calls_in, over_in, reached_in, visited_in}
+use Rattle.explored_runs.specs.Answering.{all_stand, calls_in, over_in, reached_in, visited_in}
 use Rattle.explored_runs.proofs.sorting.sort_out.Given as goal
 
 abbrev pub invariant-loop-state : goal.invariant-loop-state
@@ -9,4 +9,5 @@ invariant-loop-state l = record {
   over : l.over.items ≡ over_in l.yielded;
   visited : l.visited.items ≡ visited_in l.yielded;
   calls : l.calls.items ≡ calls_in l.yielded;
+  whole : l.is_whole ≡ all_stand l.yielded;
 }

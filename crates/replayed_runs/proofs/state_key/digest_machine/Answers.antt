@@ -1,5 +1,5 @@
 -- The machine of a process that is there, or nothing.
-use Rattle.std.proofs.Common.{◌≡◌, ◌∙◌, ◌++◌, List, ℕ, Option, Some, None, ap, refl, sym}
+use Rattle.std.proofs.Common.{◌≡◌, ◌∙◌, ◌++◌, Option, Some, None, ap, sym}
 use Rattle.std.specs.Prelude.{IsSomeAnd}
 use Rattle.kernel_model.specs.Answers.{now}
 use Rattle.kernel_model.specs.State.{Process, process_at}

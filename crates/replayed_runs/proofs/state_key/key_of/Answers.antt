@@ -1,8 +1,7 @@
 -- One thing after another is digested.
-use Rattle.std.proofs.Common.{◌++◌, ℕ, List, [], map, ap}
+use Rattle.std.proofs.Common.{◌++◌, List, [], map, ap}
 use Rattle.kernel_model.specs.Answers.{now}
 use Rattle.kernel_model.specs.State.{TapeState}
-use Rattle.disk_model.specs.Numbers.{Numbered}
 use Rattle.pipes.specs.Seen.{Seen, seen_of}
 use Rattle.processes.specs.Parts.{Part, part_of}
 use Rattle.replayed_runs.specs.StateKeys.{files_bytes, pipes_bytes, processes_bytes, state_bytes, tapes_bytes, terminals_bytes}

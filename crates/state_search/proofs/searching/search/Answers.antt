@@ -30,4 +30,4 @@ returns-clause-searched g c =
     let B = g.M.Moves.begins (g.M.Moves.space c.args.moves.now) in
     let E = g.M.Moves.expands (g.M.Moves.space c.args.moves.now) in
     let was = c.loop-alloc.going in
-    has-part B E was.known.set was.searched.gone_on inv.gone was.searched.left.items [] was.searched.depth inv.are_many (let all = rw inv.alone at inv.going in all)
+    has-part B E was.known.set was.searched.gone_on inv.gone was.searched.left.items [] was.searched.depth was.searched.is_whole inv.are_many (let all = rw inv.alone at inv.going in all)

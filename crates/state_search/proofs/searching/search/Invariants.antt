@@ -13,7 +13,7 @@ invariant-loop-alloc g l = record {
   gone : List (Found g.row.M-State.Denot);
   are_many : length gone ≡ l.going.searched.gone_on;
   going : IsGoing (g.M.Moves.begins (g.M.Moves.space l.fn.moves)) (g.M.Moves.expands (g.M.Moves.space l.fn.moves)) l.going.known.set
-      gone l.going.searched.left.items l.going.others.items l.going.searched.depth;
+      gone l.going.searched.left.items l.going.others.items l.going.searched.depth l.going.searched.is_whole;
 }
 
 abbrev pub decreases-loop-alloc : goal.decreases-loop-alloc

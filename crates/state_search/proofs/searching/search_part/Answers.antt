@@ -17,10 +17,10 @@ loop-alloc-preserved g c =
     let more = c.loop-alloc-test.ensures.more in
     let are = c.in_ok-going-2.ensures.left in
     let goes = goes-on-left B E was.known.set left.known.set was.searched.gone_on inv.gone was.searched.left.items was.others.items left.searched.gone_on left.searched.left.items
-    left.others.items was.searched.depth inv.going are in
-    let at-depth : IsGoing B E left.known.set inv.gone left.searched.left.items left.others.items left.searched.depth = rw c.in_ok-going-2.ensures.depth goes in
+    left.others.items was.searched.depth was.searched.is_whole inv.going are in
+    let at-depth : IsGoing B E left.known.set inv.gone left.searched.left.items left.others.items left.searched.depth left.searched.is_whole = rw (c.in_ok-going-2.ensures.depth, c.in_ok-going-2.ensures.whole) goes in
     let goes-on = rw inv.space at c.in_ok-going-3.ensures.going inv.gone in
-    let kept = shares B E was.known.set c.args.part.number c.args.part.of was.searched.gone_on inv.gone was.searched.left.items was.others.items was.searched.depth inv.going inv.are_many inv.shared in
+    let kept = shares B E was.known.set c.args.part.number c.args.part.of was.searched.gone_on inv.gone was.searched.left.items was.others.items was.searched.depth was.searched.is_whole inv.going inv.are_many inv.shared in
     record {
       space = c.go_on.ensures.space ∙ inv.space;
       within = record {
@@ -39,6 +39,6 @@ pub returns-clause-part : goal.returns-clause-part
 returns-clause-part g c =
     let inv = c.loop-alloc.invariant in
     record {
-      searched = record { gone_on = inv.gone; are_many = inv.are_many; part = inv.going.searched };
+      searched = record { gone_on = inv.gone; are_many = inv.are_many; part = inv.going.searched; whole = inv.going.whole };
       shared = inv.shared;
     }

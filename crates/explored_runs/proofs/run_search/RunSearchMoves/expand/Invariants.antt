@@ -1,16 +1,15 @@
 -- The states before these were answered.
 use Rattle.std.proofs.Common.{◌≡◌, ◌++◌, ℕ, List, length}
 use Rattle.std.specs.Global.{Vec}
-use Rattle.disk_model.specs.declared.change.NamedFile.{NamedFile}
 use Rattle.state_search.specs.declared.moves.Found.{Found}
-use Rattle.explored_runs.specs.Answering.{AreAnswered, StandOn}
+use Rattle.explored_runs.specs.Answering.{Expands}
 use Rattle.explored_runs.proofs.run_search.RunSearchMoves.expand.Given as goal
 
 abbrev pub invariant-loop-rest : goal.invariant-loop-rest
 invariant-loop-rest g l = record {
   done : List (Found (Vec ℕ));
   parted : l.level ≡ done ++ l.rest;
-  answered : (files : List NamedFile) → StandOn l.self.runs.now files → AreAnswered l.self.runs.now files done l.next.items;
+  answered : Expands l.self.runs.now done l.next.items l.is_whole;
   space : l.self.runs.now ≡ l.fn.self.runs.now;
 }
 

@@ -1,9 +1,9 @@
 -- The processes up to the last that has not ended were asked, and those after it do nothing.
-use Rattle.std.proofs.Common.{◌<◌, ◌-◌, ℕ, length, subst}
-use Rattle.explored_runs.specs.Answering.{AreTried, HaveTriedKeys}
+use Rattle.std.proofs.Common.{◌-◌, length, subst}
+use Rattle.explored_runs.specs.Answering.{AreTried}
 use Rattle.replayed_runs.specs.Replays.{seen_of}
 use Rattle.explored_runs.specs.declared.runs.Tries.{Tries}
-use Rattle.explored_runs.proofs.Nexts.{all_idle, none_after}
+use Rattle.explored_runs.proofs.Nexts.{none_after}
 use Rattle.explored_runs.proofs.runs.Runs.next.Goals as goal
 
 pub with_last-requires-clause-asked : goal.with_last-requires-clause-asked
