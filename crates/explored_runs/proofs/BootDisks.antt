@@ -5,7 +5,6 @@ use Rattle.disk_model.specs.Files.{files_after}
 use Rattle.disk_model.specs.Held.{joined, selected_half}
 use Rattle.disk_model.specs.declared.change.Change.{Change}
 use Rattle.disk_model.specs.declared.change.NamedFile.{NamedFile}
-use Rattle.disk_model.proofs.Once.{one_list}
 use Rattle.explored_runs.specs.Booting.{AreFilesOf, IsDiskOf}
 
 no_files : (disk : List ℕ) (upto : ℕ) (files : List NamedFile) → ((i : ℕ) → slice_index disk i ≡ 0) → IsHeldTo disk upto files → files ≡ []
@@ -22,8 +21,3 @@ no_files disk upto files zeros held = by held.reads.groups held.reads.records he
 pub files_on : (bytes : Option (List ℕ)) (disk : List ℕ) (upto : ℕ) (files : List NamedFile) → IsDiskOf bytes disk → IsHeldTo disk upto files → AreFilesOf bytes files
 files_on None disk upto files zeros held = no_files disk upto files zeros held
 files_on (Some bytes) disk upto files same held = (upto, subst (λ (d : List ℕ). IsHeldTo d upto files) same held)
-
--- they are the same in each boot
-pub one_files : (bytes : Option (List ℕ)) (files others : List NamedFile) → AreFilesOf bytes files → AreFilesOf bytes others → files ≡ others
-one_files None files others are also = are ∙ sym also
-one_files (Some bytes) files others are also = (one_list bytes are.0 also.0 files others are.1 also.1).0

@@ -10,10 +10,6 @@ use Rattle.explored_runs.specs.declared.programs.Given.{Given}
 abbrev pub boot_program : Given → BootProgram
 boot_program g = record { state = first_state g.image; terminal = g.terminal.number }
 
--- The boot of these programs, tapes and files. What is seen of a run depends on no disk beside, so here it is none.
-abbrev pub boot_of : List Given → List (List ℕ) → List NamedFile → Boot
-boot_of given tapes files = record { programs = map boot_program given; tapes = tapes; files = files; disk = []; gate = 0 }
-
 -- a disk has the bytes that are given, or zeros where none are
 abbrev pub IsDiskOf : Option (List ℕ) → List ℕ → Type 0
 IsDiskOf None disk = (i : ℕ) → slice_index disk i ≡ 0

@@ -1,4 +1,4 @@
-//! What is explored: programs, tapes, and the files on the disk. They are booted again and again, each time on a disk of its own.
+//! What is explored: programs, tapes, and the files on the disk. They are booted once.
 ghost use Rattle.std.specs.Prelude.{◌≡◌, ◌<◌, [], true, map, IfOk};
 ghost use Rattle.std.specs.List.{AllByRecursion};
 ghost use Rattle.disk_model.specs.Storage.{is_quiet};
@@ -31,21 +31,15 @@ impl Drop for Given {
     }
 }
 
-/// Programs, the eight tapes, and the disk.
+/// Programs that were booted, before any event. Each run begins with a copy of that core.
 pub struct Programs {
-    given: Vec<Given>,
-    tapes: Vec<Bytes>,
-    /// The bytes of the disk. None where it holds no file: one of zeros costs less at each boot.
-    disk: Option<Bytes>,
+    pub booted: Core,
+    ghost fresh: { booted.history ≡ [] },
 }
 
 impl Drop for Programs {
     fn drop(self) {
-        let Programs {
-            given: _given,
-            tapes: _tapes,
-            disk: _disk,
-        } = self;
+        let Programs { booted: _booted } = self;
     }
 }
 
@@ -121,31 +115,43 @@ fn disk_of(alloc: Global, core: Core) -> Result<Option<Bytes>, AllocError> {
 }
 
 impl Programs {
+    /// Boots programs with these tapes, on a disk of these bytes, or of zeros where none are given. Where there are none, or more than
+    /// eight, line 1 of the script is refused.
+    fn booted(
+        alloc: Global,
+        given: &[Given],
+        tapes: &[Bytes],
+        disk: &Option<Bytes>,
+    ) -> Result<Programs, Fault>
+        ensures { IfOk result (λ it. IsBootOf given.now tapes.now disk.now it.booted.boot) }
+    {
+        let programs = copies_of(alloc, given)?;
+        let tapes = tape_copies(alloc, tapes)?;
+        if programs.is_empty() || programs.len() > MOST_PROGRAMS || tapes.len() > TAPES {
+            return Err(no_program());
+        }
+        let device = device_of(alloc, disk)?;
+        match Core::boot(alloc, device, programs, tapes) {
+            Ok(booted) => Ok(Programs { booted }),
+            Err(why) => Err(boot_fault(why)),
+        }
+    }
+
     /// What is set up. Files of images are read in their order, and the first faulty one is the fault. Where no program is set up, line 1
     /// of the script is refused.
     pub fn of_setup<R: Files + AllocGlobal>(rt: &R, setup: &mut Setup) -> Result<Programs, Fault> {
         let core = setup.boot(rt, None)?;
-        Ok(Programs {
-            given: given_of(rt, setup)?,
-            tapes: tapes_of(rt.alloc(), &core)?,
-            disk: disk_of(rt.alloc(), core)?,
-        })
+        let given = given_of(rt, setup)?;
+        let tapes = tapes_of(rt.alloc(), &core)?;
+        let disk = disk_of(rt.alloc(), core)?;
+        Programs::booted(rt.alloc(), given.as_slice(), tapes.as_slice(), &disk)
     }
 
-    /// A core of the programs before any event. Where there are none, or more than eight, line 1 of the script is refused.
-    pub fn boot(&self, alloc: Global) -> Result<Core, Fault>
-        ensures boot { IfOk result (λ core. IsBootOf self.now.given.items self.now.tapes.items self.now.disk core.boot) }
+    /// A core of the programs before any event.
+    pub fn boot(&self, alloc: Global) -> Result<Core, AllocError>
+        ensures boot { IfOk result (λ core. core.boot ≡ self.now.booted.boot) }
         ensures history { IfOk result (λ core. core.history ≡ []) }
     {
-        let programs = copies_of(alloc, self.given.as_slice())?;
-        let tapes = tape_copies(alloc, self.tapes.as_slice())?;
-        if programs.is_empty() || programs.len() > MOST_PROGRAMS || tapes.len() > TAPES {
-            return Err(no_program());
-        }
-        let device = device_of(alloc, &self.disk)?;
-        match Core::boot(alloc, device, programs, tapes) {
-            Ok(core) => Ok(core),
-            Err(why) => Err(boot_fault(why)),
-        }
+        self.booted.try_clone(alloc)
     }
 }
