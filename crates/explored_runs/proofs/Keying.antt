@@ -8,7 +8,7 @@ use Rattle.order_laws.proofs.Calls.{calls_commute}
 use Rattle.order_laws.proofs.Choosing.{reached-append}
 use Rattle.state_search.specs.declared.key.Key.{Key}
 use Rattle.state_search.specs.declared.moves.Reached.{Reached}
-use Rattle.explored_runs.specs.Answering.{HasKeyOf, HaveKeys, IsCopyOf, IsRunOf, StandOn, boot_in}
+use Rattle.explored_runs.specs.Answering.{HasKeyOf, HaveKeys, IsCopyOf, IsRunOf, boot_in}
 use Rattle.replayed_runs.specs.Replays.{seen_after_calls, seen_of}
 use Rattle.replayed_runs.specs.StateKeys.{IsKeyOf}
 use Rattle.replayed_runs.specs.declared.replay.Replay.{Replay}
@@ -18,8 +18,7 @@ module _ (r : Runs) (ps : List ℕ) where
   -- a copy of a run is that run
   pub copy_is : (x y : Replay) → IsRunOf r ps x → IsCopyOf x y → IsRunOf r ps y
   copy_is x y run copy = record {
-    seen = copy.seen ∙ run.seen ∙ ap (λ (b : Boot). seen_after_calls r.instructions (boot_in r b.files) ps) (sym copy.boot);
-    files = subst (λ (b : Boot). StandOn r b.files) (sym copy.boot) run.files;
+    seen = copy.seen ∙ run.seen;
     limit = copy.limit ∙ run.limit;
   }
 
@@ -30,9 +29,7 @@ module _ (r : Runs) (ps : List ℕ) where
     seen = moved
         ∙ ap (λ n. (calls n).go (seen_of x.core) p) run.limit
         ∙ ap (λ (s : Seen). (calls r.instructions).go s p) run.seen
-        ∙ sym (reached-append (calls r.instructions) (λ (s : Seen). AreNumbered s.sync.files) (calls_commute r.instructions) ps (p ∷ []) (seen_after_calls r.instructions (boot_in r x.core.boot.files) []))
-        ∙ ap (λ (b : Boot). seen_after_calls r.instructions (boot_in r b.files) (ps ++ p ∷ [])) (sym boot);
-    files = subst (λ (b : Boot). StandOn r b.files) (sym boot) run.files;
+        ∙ sym (reached-append (calls r.instructions) (λ (s : Seen). AreNumbered s.sync.files) (calls_commute r.instructions) ps (p ∷ []) (seen_after_calls r.instructions (boot_in r) []));
     limit = limit ∙ run.limit;
   }
 

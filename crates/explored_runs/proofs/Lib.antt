@@ -1,5 +1,4 @@
 mod Answered
-mod BootDisks
 mod Gathered
 mod Joining
 mod Keeping

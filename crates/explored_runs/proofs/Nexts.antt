@@ -6,7 +6,6 @@ use Rattle.std.specs.List.{Contains}
 use Rattle.std.proofs.lemmas.Bool.{cases_lt, eq-eqb, false≢true, ne_eqb}
 use Rattle.std.proofs.lemmas.List.{map-append}
 use Rattle.std.proofs.lemmas.List.Elements.{Contains-append_left, Contains-append_right, Contains-append_cases, Contains-push}
-use Rattle.disk_model.specs.declared.change.NamedFile.{NamedFile}
 use Rattle.kernel_model.specs.Limits.{AreNumbered}
 use Rattle.order_laws.specs.Moves.{Seen, calls}
 use Rattle.order_laws.specs.Orders.{IsOver}
@@ -16,7 +15,7 @@ use Rattle.order_laws.proofs.Choosing.{reached-append}
 use Rattle.state_search.specs.Searches.{Answer}
 use Rattle.state_search.specs.declared.moves.Found.{Found}
 use Rattle.state_search.specs.declared.moves.Reached.{Reached}
-use Rattle.explored_runs.specs.Answering.{AreAnswered, AreNext, Expands, IsCopyOf, IsTried, StandOn, boot_in, seen_in_runs, seen_of_run, ways, with_each, working}
+use Rattle.explored_runs.specs.Answering.{AreAnswered, AreNext, Expands, IsCopyOf, IsTried, boot_in, seen_in_runs, seen_of_run, ways, with_each, working}
 use Rattle.explored_runs.specs.CallSearches.{AnswersCalls, AreCalls, IsAnswered}
 use Rattle.replayed_runs.specs.Replays.{seen_after_calls, seen_of}
 use Rattle.replayed_runs.specs.declared.replay.Replay.{Replay}
@@ -123,12 +122,12 @@ none_asked n s ps rs asked none = is_over n s (no_map (working n s (length s.syn
     no_map (q ∷ qs) is = absurd cc
 
 -- ---- a level that was answered was answered with calls
-module _ (r : Runs) (files : List NamedFile) where
+module _ (r : Runs) where
   abbrev n : ℕ
   n = r.instructions
 
   abbrev seen : Vec ℕ → Seen
-  seen = seen_in_runs r files
+  seen = seen_in_runs r
 
   abbrev way : Reached (Vec ℕ) → List ℕ
   way x = x.state.items
@@ -136,8 +135,8 @@ module _ (r : Runs) (files : List NamedFile) where
   -- one that was answered with these calls stands for what they come to
   stands_for : (f : Found (Vec ℕ)) (p : ℕ) (x : Reached (Vec ℕ)) → way x ≡ f.state.items ++ p ∷ [] → seen x.state ≡ (calls n).go (seen f.state) p
   stands_for f p x is =
-      ap (λ (ps : List ℕ). seen_after_calls n (boot_in r files) ps) is
-      ∙ reached-append (calls n) (λ (s : Seen). AreNumbered s.sync.files) (calls_commute n) f.state.items (p ∷ []) (seen_after_calls n (boot_in r files) [])
+      ap (λ (ps : List ℕ). seen_after_calls n (boot_in r) ps) is
+      ∙ reached-append (calls n) (λ (s : Seen). AreNumbered s.sync.files) (calls_commute n) f.state.items (p ∷ []) (seen_after_calls n (boot_in r) [])
 
   -- one of these was answered for this process
   answered_for : (f : Found (Vec ℕ)) (own : List (Reached (Vec ℕ))) (qs : List ℕ) → ways own ≡ with_each f.state.items qs → (p : ℕ) → Contains qs p
@@ -160,7 +159,7 @@ module _ (r : Runs) (files : List NamedFile) where
   more_goes f own next among (inl one) = inl (one.0, one.1, (one.2.0, among one.2.0 one.2.1, one.2.2))
   more_goes f own next among (inr each) = inr (λ p works. let it = each p works in (it.0, among it.0 it.1, it.2))
 
-  are_calls : (level : List (Found (Vec ℕ))) (next : List (Reached (Vec ℕ))) → AreAnswered r files level next → AreCalls n seen level next
+  are_calls : (level : List (Found (Vec ℕ))) (next : List (Reached (Vec ℕ))) → AreAnswered r level next → AreCalls n seen level next
   are_calls [] next are f is = absurd (let within = is.1 in let no : ⊥ = omega (arith, within) in no)
   are_calls (g ∷ fs) next are f is =
       let own = are.0 in
@@ -177,10 +176,10 @@ module _ (r : Runs) (files : List NamedFile) where
           (subst (λ (h : Found (Vec ℕ)). Goes h own) (only g f here) (goes g own first))
 
   -- so what was answered for a search of runs is of the calls of their boot
-  pub answers_calls : (first : Reached (Vec ℕ)) (answers : List (Answer (Vec ℕ))) → first.state.items ≡ [] → StandOn r files
-      → ((a : Answer (Vec ℕ)) → Contains answers a → Expands r a.level a.next a.is_whole) → AnswersCalls n (boot_in r files) seen first answers
-  answers_calls first answers none on are = record {
-    begins = ap (λ (ps : List ℕ). seen_of_run r files ps) none;
-    each = λ a is. are_calls a.level a.next (are a is files on).0;
-    stand = λ a is. (are a is files on).1;
+  pub answers_calls : (first : Reached (Vec ℕ)) (answers : List (Answer (Vec ℕ))) → first.state.items ≡ []
+      → ((a : Answer (Vec ℕ)) → Contains answers a → Expands r a.level a.next a.is_whole) → AnswersCalls n (boot_in r) seen first answers
+  answers_calls first answers none are = record {
+    begins = ap (λ (ps : List ℕ). seen_of_run r ps) none;
+    each = λ a is. are_calls a.level a.next (are a is).0;
+    stand = λ a is. (are a is).1;
   }

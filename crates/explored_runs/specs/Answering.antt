@@ -10,7 +10,6 @@ use Rattle.order_laws.specs.Privacy.{IsPrivate}
 use Rattle.state_search.specs.declared.key.Key.{Key}
 use Rattle.state_search.specs.declared.moves.Found.{Found}
 use Rattle.state_search.specs.declared.moves.Reached.{Reached}
-use Rattle.explored_runs.specs.Booting.{AreFilesOf, boot_of}
 use Rattle.explored_runs.specs.CallSearches.{seen_in}
 use Rattle.replayed_runs.specs.Replays.{seen_after_calls, seen_of}
 use Rattle.replayed_runs.specs.StateKeys.{IsKeyOf}
@@ -28,24 +27,20 @@ use Rattle.explored_runs.specs.declared.visited.VisitedState.{VisitedState}
 use Rattle.explored_runs.specs.declared.visited.Visits.{Visits}
 use Rattle.explored_runs.specs.declared.visited.Visits.TheVariants.{Nothing}
 
--- the boot of what is explored, where these files stand on its disk
-abbrev pub boot_in : Runs → List NamedFile → Boot
-boot_in r files = boot_of r.programs.now.given.items r.programs.now.tapes.items files
-
-abbrev pub StandOn : Runs → List NamedFile → Type 0
-StandOn r files = AreFilesOf r.programs.now.disk files
+-- the boot of what is explored
+abbrev pub boot_in : Runs → Boot
+boot_in r = r.programs.now.booted.boot
 
 -- what the run of these calls comes to
-abbrev pub seen_of_run : Runs → List NamedFile → List ℕ → Seen
-seen_of_run r files ps = seen_after_calls r.instructions (boot_in r files) ps
+abbrev pub seen_of_run : Runs → List ℕ → Seen
+seen_of_run r ps = seen_after_calls r.instructions (boot_in r) ps
 
-abbrev pub seen_in_runs : Runs → List NamedFile → Vec ℕ → Seen
-seen_in_runs r files v = seen_of_run r files v.items
+abbrev pub seen_in_runs : Runs → Vec ℕ → Seen
+seen_in_runs r v = seen_of_run r v.items
 
--- The run of these calls was replayed: the programs were booted on some files, which stand on the disk that is given, and then these calls were made.
+-- The run of these calls was replayed: the programs were booted, and then these calls were made.
 pub record IsRunOf (r : Runs) (ps : List ℕ) (x : Replay) : Type 0 where
-  pub seen : seen_of x.core ≡ seen_of_run r x.core.boot.files ps
-  pub files : StandOn r x.core.boot.files
+  pub seen : seen_of x.core ≡ seen_of_run r ps
   pub limit : x.limit ≡ r.instructions
 
 -- a replay of the run of these calls has this key
@@ -138,18 +133,18 @@ IsVisitOf visits ps s (Some v) = IsVisited ps s v
 
 -- This was found of the run of calls ps: what comes after it, with the keys of the runs of one call more, and its state, where states are visited. Where it
 -- says so, each process stands there at a call or a trap, or has ended.
-pub record IsAfter (r : Runs) (files : List NamedFile) (ps : List ℕ) (a : After) : Type 0 where
-  pub next : IsNext r.instructions (seen_of_run r files ps) ps a.next
+pub record IsAfter (r : Runs) (ps : List ℕ) (a : After) : Type 0 where
+  pub next : IsNext r.instructions (seen_of_run r ps) ps a.next
   pub keys : HaveKeys r (reached_by_next a.next)
-  pub visited : IsVisitOf r.visits ps (seen_of_run r files ps) a.visited
-  pub stands : a.stands ≡ true → Stand (seen_of_run r files ps)
+  pub visited : IsVisitOf r.visits ps (seen_of_run r ps) a.visited
+  pub stands : a.stands ≡ true → Stand (seen_of_run r ps)
 
 -- and so of each of these runs, in their order
-abbrev pub AreAfter : Runs → List NamedFile → List (Found (Vec ℕ)) → List After → Type 0
-AreAfter r files [] [] = Unit {0}
-AreAfter r files [] (a ∷ more) = ⊥
-AreAfter r files (f ∷ fs) [] = ⊥
-AreAfter r files (f ∷ fs) (a ∷ more) = IsAfter r files f.state.items a × AreAfter r files fs more
+abbrev pub AreAfter : Runs → List (Found (Vec ℕ)) → List After → Type 0
+AreAfter r [] [] = Unit {0}
+AreAfter r [] (a ∷ more) = ⊥
+AreAfter r (f ∷ fs) [] = ⊥
+AreAfter r (f ∷ fs) (a ∷ more) = IsAfter r f.state.items a × AreAfter r fs more
 
 -- what was found by each share, none of which has a fault, is put together
 abbrev pub AreJoined : {E : Type 0} → List (Result (Vec After) E) → List After → Type 0
@@ -191,22 +186,22 @@ all_stand [] = true
 all_stand (a ∷ more) = a.stands && all_stand more
 
 -- what came after each of these runs, one after the other, each with its key
-abbrev pub AreAnswered : Runs → List NamedFile → List (Found (Vec ℕ)) → List (Reached (Vec ℕ)) → Type 0
-AreAnswered r files [] next = next ≡ []
-AreAnswered r files (f ∷ fs) next = (own : List (Reached (Vec ℕ))) × (rest : List (Reached (Vec ℕ)))
-    × AreNext r.instructions (seen_in_runs r files f.state) f.state.items own × HaveKeys r own × (next ≡ own ++ rest)
-    × AreAnswered r files fs rest
+abbrev pub AreAnswered : Runs → List (Found (Vec ℕ)) → List (Reached (Vec ℕ)) → Type 0
+AreAnswered r [] next = next ≡ []
+AreAnswered r (f ∷ fs) next = (own : List (Reached (Vec ℕ))) × (rest : List (Reached (Vec ℕ)))
+    × AreNext r.instructions (seen_in_runs r f.state) f.state.items own × HaveKeys r own × (next ≡ own ++ rest)
+    × AreAnswered r fs rest
 
--- So a level was answered, whichever files stand on the disk: they are the same in each boot. Where no move was left out, each process stands at a call or
+-- So a level was answered. Where no move was left out, each process stands at a call or
 -- a trap in each of its states, or has ended.
 abbrev pub Expands : Runs → List (Found (Vec ℕ)) → List (Reached (Vec ℕ)) → Bool → Type 0
-Expands r level next is_whole = (files : List NamedFile) → StandOn r files → AreAnswered r files level next × (is_whole ≡ true → AllStand (seen_in (seen_in_runs r files) level))
+Expands r level next is_whole = AreAnswered r level next × (is_whole ≡ true → AllStand (seen_in (seen_in_runs r) level))
 
 -- What is told of these runs is right: of what came after each, in their order, the outcome of each that is over, once; the state of each, where states
 -- are visited; and by how many calls the search goes on from it.
 pub record AreTold (r : Runs) (states : List (Found (Vec ℕ))) (over : List Outcome) (visited : List VisitedState) (calls : List ℕ) : Type 0 where
   pub afters : List After
-  pub each : (files : List NamedFile) → StandOn r files → AreAfter r files states afters
+  pub each : AreAfter r states afters
   pub over_are : over ≡ over_in afters
   pub visited_are : visited ≡ visited_in afters
   pub calls_are : calls ≡ calls_in afters

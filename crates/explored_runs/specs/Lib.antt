@@ -1,5 +1,4 @@
 pub mod Answering
-pub mod Booting
 pub mod CallSearches
 pub mod Checkpoints
 pub mod Explored

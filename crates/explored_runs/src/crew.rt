@@ -1,7 +1,6 @@
 //! A level is shared among threads, and what they answer is put together in its order.
-ghost use Rattle.std.specs.Prelude.{◌<◌, List, IfOk};
-ghost use Rattle.disk_model.specs.declared.change.NamedFile.{NamedFile};
-ghost use Rattle.explored_runs.specs.Answering.{AreAfter, AreJoined, StandOn};
+ghost use Rattle.std.specs.Prelude.{◌<◌, IfOk};
+ghost use Rattle.explored_runs.specs.Answering.{AreAfter, AreJoined};
 
 use crate::checkpoints::{Checkpoints, common_calls_of};
 use crate::runs::{After, Runs};
@@ -14,7 +13,7 @@ use std::thread::Threads;
 /// What comes after each state of a share, in its order. Each run is replayed from a checkpoint. The fault is that of the first
 /// state that has one.
 fn share_of(runs: &Runs<'_>, share: &[Found<Vec<u32>>]) -> Result<Vec<After>, Fault>
-    ensures { IfOk result (λ afters. (files : List NamedFile) → StandOn runs.now files → AreAfter runs.now files share.now afters.items) }
+    ensures { IfOk result (λ afters. AreAfter runs.now share.now afters.items) }
 {
     let common = common_calls_of(runs.alloc, share)?;
     let mut checkpoints = Checkpoints::new(runs.alloc);
@@ -53,7 +52,7 @@ pub fn after_each<R: Threads + Sync>(
     threads: usize,
     level: &[Found<Vec<u32>>],
 ) -> Result<Vec<After>, Fault>
-    ensures { IfOk result (λ afters. (files : List NamedFile) → StandOn runs.now files → AreAfter runs.now files level.now afters.items) }
+    ensures { IfOk result (λ afters. AreAfter runs.now level.now afters.items) }
 {
     let size = share_size(level.len(), threads);
     let shares = thread::map_chunks(
@@ -62,7 +61,7 @@ pub fn after_each<R: Threads + Sync>(
         level,
         size,
         &|_start: usize, share: &[Found<Vec<u32>>]| -> Result<Vec<After>, Fault>
-            ensures { IfOk result (λ afters. (files : List NamedFile) → StandOn runs.entry.now files → AreAfter runs.entry.now files share.entry.now afters.items) }
+            ensures { IfOk result (λ afters. AreAfter runs.entry.now share.entry.now afters.items) }
         { share_of(runs, share) },
     )?;
     let all = joined(runs.alloc, shares)?;

@@ -1,7 +1,6 @@
 //! Runs as a search sees them. A run is the processes whose calls lead to it, and is replayed on a copy of a core that was booted.
 ghost use Rattle.std.specs.Prelude.{◌≡◌, ℕ, ◌<◌, ◌-◌, ◌∷◌, ◌++◌, [], List, length, true, false, IfOk};
-ghost use Rattle.disk_model.specs.declared.change.NamedFile.{NamedFile};
-ghost use Rattle.explored_runs.specs.Answering.{AreTried, HasTriedKey, HaveKeys, HaveTriedKeys, IsAfter, IsCopyOf, IsNext, IsRunOf, IsTried, IsVisitOf, StandOn, calls_by_next, is_idle, reached_by_next, ways, with_each, working};
+ghost use Rattle.explored_runs.specs.Answering.{AreTried, HasTriedKey, HaveKeys, HaveTriedKeys, IsAfter, IsCopyOf, IsNext, IsRunOf, IsTried, IsVisitOf, calls_by_next, is_idle, reached_by_next, ways, with_each, working};
 ghost use Rattle.order_laws.specs.Moves.{Seen};
 ghost use Rattle.replayed_runs.specs.Replays.{seen_of};
 ghost use Rattle.explored_runs.specs.RunSearches.{IsFirstRun};
@@ -195,7 +194,7 @@ impl Runs<'_> {
     /// What is found of the run of these calls, which was replayed.
     pub fn after(&self, calls: &[u32], replay: Replay) -> Result<After, Fault>
         requires { IsRunOf self.now calls.now replay }
-        ensures { IfOk result (λ after. (files : List NamedFile) → StandOn self.now files → IsAfter self.now files calls.now after) }
+        ensures { IfOk result (λ after. IsAfter self.now calls.now after) }
     {
         let visited = self.visited(calls, &replay)?;
         let is_at_sync = replay.is_at_sync();

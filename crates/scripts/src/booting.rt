@@ -1,5 +1,5 @@
 //! Boots the programs and tapes that a script sets up: first on a disk with the files that it sets up, and after a `crash` line on the disk that is left.
-ghost use Rattle.std.specs.Prelude.{◌≡◌, ◌<◌, true, length, IfOk, IfSome};
+ghost use Rattle.std.specs.Prelude.{◌≡◌, ◌<◌, [], true, length, IfOk, IfSome};
 ghost use Rattle.std.specs.List.{AllByRecursion};
 ghost use Rattle.disk_model.specs.Storage.{is_quiet};
 ghost use Rattle.kernel_model.specs.World.{terminal_count, tape_count};
@@ -114,6 +114,7 @@ impl Setup {
         left: Option<SimDisk>,
     ) -> Result<Core, Fault>
         requires { IfSome left (λ device. is_quiet device ≡ true) }
+        ensures { IfOk result (λ core. core.history ≡ []) }
     {
         let programs = programs_of(rt, self.programs.as_mut_slice())?;
         if programs.is_empty() || programs.len() > MOST_PROGRAMS {
@@ -121,6 +122,9 @@ impl Setup {
         }
         let device = disk_of(rt.alloc(), left, &self.files)?;
         let tapes = tapes_of(rt.alloc(), self.tapes.as_slice())?;
-        Core::boot(rt.alloc(), device, programs, tapes).map_err(boot_fault)
+        match Core::boot(rt.alloc(), device, programs, tapes) {
+            Ok(core) => Ok(core),
+            Err(why) => Err(boot_fault(why)),
+        }
     }
 }

@@ -2,7 +2,7 @@
 //!
 //! Read `script` first: a script is read whole, by its set-up lines (`setup`) and its `steps`. Then read `playing`, whose player
 //! does the steps and tells a `Visitor` what happens. `replaying` boots a script (`booting`), has it played, and prints what each
-//! line gives. Only safety is proved.
+//! line gives. Of a core that is booted it is proved that it has no history, and beside that only safety.
 #![tactic(auto)]
 
 mod booting;
@@ -20,7 +20,7 @@ mod steps;
 mod texts;
 mod words;
 
-pub use booting::{boot_fault, no_program};
+pub use booting::boot_fault;
 pub use cone::{cone_events, cone_numbers, replay_cone};
 pub use file_lines::write_files;
 pub use playing::{LineAnswer, Visitor, play_all};

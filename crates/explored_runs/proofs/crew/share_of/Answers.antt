@@ -9,17 +9,17 @@ use Rattle.explored_runs.proofs.crew.share_of.Goals as goal
 
 pub loop-found-preserved : goal.loop-found-preserved
 loop-found-preserved c = record {
-  answered = λ files stand.
+  answered =
       let r = c.args.runs.now in
       let f = c.found-item.result in
-      let after = rw c.as_slice-calls.ensures.value at c.in_ok-after.ensures files stand in
-      let more = one_more r files _ c.loop-found.afters.items f c.in_ok-after.field-0 (c.loop-found.invariant.answered files stand) after in
+      let after = rw c.as_slice-calls.ensures.value at c.in_ok-after.ensures in
+      let more = one_more r _ c.loop-found.afters.items f c.in_ok-after.field-0 c.loop-found.invariant.answered after in
       let taken = next_taken c.args.share.now c.loop-found.found-index f c.loop-found-test.true c.found-item.is in
       rw (c.in_ok-push.ensures.items, taken) more;
   kept = c.in_ok-replay.ensures.kept;
 }
 
 pub returns : goal.returns
-returns c = λ files stand.
-    subst (λ (fs : List (Found (Vec ℕ))). AreAfter c.args.runs.now files fs c.loop-found.afters.items) (take_all c.loop-found.found-index c.args.share.now c.loop-found-test.false)
-    (c.loop-found.invariant.answered files stand)
+returns c =
+    subst (λ (fs : List (Found (Vec ℕ))). AreAfter c.args.runs.now fs c.loop-found.afters.items) (take_all c.loop-found.found-index c.args.share.now c.loop-found-test.false)
+    c.loop-found.invariant.answered

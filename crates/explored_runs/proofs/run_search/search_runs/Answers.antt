@@ -10,5 +10,5 @@ returns-in-Ok-clause-finds g c =
     let part = found.searched.part in
     record {
       searched = found.searched;
-      finds = λ files on tell. found.finds r.instructions (boot_in r files) (seen_in_runs r files) (answers_calls r files part.first part.answers part.is_first.calls on part.are_answers) tell;
+      finds = λ tell. found.finds r.instructions (boot_in r) (seen_in_runs r) (answers_calls r part.first part.answers part.is_first.calls part.are_answers) tell;
     }

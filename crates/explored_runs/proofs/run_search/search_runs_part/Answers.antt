@@ -11,6 +11,6 @@ returns-in-Ok-clause-finds g c =
     record {
       searched = found.searched;
       shared = found.shared;
-      finds = λ files on all tell among. found.finds r.instructions (boot_in r files) (seen_in_runs r files) all
-          (answers_calls r files part.first part.answers part.is_first.calls on part.are_answers) tell among;
+      finds = λ all tell among. found.finds r.instructions (boot_in r) (seen_in_runs r) all
+          (answers_calls r part.first part.answers part.is_first.calls part.are_answers) tell among;
     }
