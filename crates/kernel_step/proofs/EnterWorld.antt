@@ -38,7 +38,7 @@ use Rattle.kernel_model.specs.declared.event.Event.TheVariants.{Enter}
 use Rattle.kernel_model.specs.declared.request.Verdict.{Verdict}
 use Rattle.kernel_model.specs.declared.request.Verdict.TheVariants.{Waits, Replies, Ends}
 use Rattle.calls.specs.Sights.{Sight}
-use Rattle.kernel_step.specs.Entering.{IsSightOf, item_of, sight_in, MayPlan, entry_of, footprint_of, parts_after, planned, PlansEnter, IsChild, MakesTask, IsNoted, IsFinished, IsCarriedOut, IsEntered, IsDone, IsTold, IsSameTask, IsSystemWith, IsSameSystem}
+use Rattle.kernel_step.specs.Entering.{IsSightOf, item_of, sight_in, MayPlan, entry_of, footprint_of, parts_after, planned, PlansEnter, IsChild, MakesTask, IsNoted, IsFinished, IsCarriedOut, IsEntered, IsDone, IsTold, IsSameTask, IsSystemWith, IsSameSystem, unboxed}
 use Rattle.held_output.specs.Withheld.{Withheld, Held, whats}
 use Rattle.kernel_step.specs.Coning.{IsFootprintNoted}
 use Rattle.kernel_step.specs.Mirrors.{IsTask, AreTasks, AreChanges, ArePipes, Mirrors}
@@ -327,7 +327,7 @@ carried-done pid m t u v s s1 s2 e outcome child here prepared same carried =
       told =
           told-same plan.verdict carried.mark s.served t u v same
           (finished-told plan.verdict carried.mark (changed_by s.files plan.change) s s1 u v prepared.changed carried.told);
-      made = carried.made plan.child (machine_of t) t.trace (subst (λ (x : State). IsChild plan.child x t.trace e.child) (sym here) entering.child);
+      made = carried.made plan.child (machine_of t) t.trace (subst (λ (x : State). IsChild plan.child x t.trace (unboxed e.child)) (sym here) entering.child);
       system =
           subst (λ (k : ℕ). IsEntered k plan carried.mark s s2) entering.process
           (finished-entered e.pid plan carried.mark s s1 s2 carried.dependencies carried.footprints prepared.changed carried.noted carried.kept carried.rest);

@@ -11,7 +11,7 @@ use Rattle.machine_model.specs.States.{State}
 use Rattle.pipes.specs.Seen.{Seen}
 use Rattle.processes.specs.Parts.{Part}
 use Rattle.held_output.specs.Withheld.{Withheld, Held, IsSame, whats}
-use Rattle.kernel_step.specs.Entering.{entry_of, in_image_by, MayBeTold, IsChild}
+use Rattle.kernel_step.specs.Entering.{entry_of, in_image_by, MayBeTold, IsChild, unboxed}
 use Rattle.kernel_step.specs.Ready.{MayEnter, HasRoomForEnter, IsPrepared, IsReady, MayBeNoted}
 use Rattle.kernel_step.specs.Tasks.{machine_of, out_of, status_of}
 use Rattle.kernel_step.specs.declared.plan.EnterPlan.{EnterPlan}
@@ -52,8 +52,8 @@ is-ready u m parent trace s s1 d pid history e may prepared holds same here is t
         room = subst (λ (r : Withheld Item). 1 ≤ r.room) (sym traced) holds.replies;
       };
       child = record {
-        running = child-runs e.plan.child m parent e.child entering.child may.running;
-        room = child-room e.plan.child m parent e.child entering.child;
+        running = child-runs e.plan.child m parent (unboxed e.child) entering.child may.running;
+        room = child-room e.plan.child m parent (unboxed e.child) entering.child;
       };
       output = holds.plan.output;
       changes = holds.plan.changes;

@@ -1,5 +1,6 @@
 -- What an Enter does to the parts of a running kernel.
 use Rattle.std.specs.Prelude.{◌≡◌, ℕ, ◌+◌, ◌^◌, ◌<◌, ◌≤◌, ◌⊎◌, true, List, [], ◌∷◌, ◌++◌, length, map, Option, Some, None, IfSome, option_map, option_to_list, slice_get}
+use Rattle.std.specs.Global.{Box}
 use Rattle.std.specs.List.{AllByRecursion}
 use Rattle.std.specs.Option.{ForSome}
 use Rattle.disk_model.specs.Files.{IsPossible}
@@ -216,6 +217,10 @@ abbrev pub IsChild : Option ℕ → State → Withheld Item → Option Task → 
 IsChild number s parent None = number ≡ None
 IsChild number s parent (Some u) = (number ≡ Some u.pid) × IsNewChild s parent u
 
+-- the task in a box, if there is one
+abbrev pub unboxed : Option (Box Task) → Option Task
+unboxed o = option_map (λ b. b.value) o
+
 -- the task once it is told 0, by an event of this mark
 pub record IsForked (mark : ℕ) (s : State) (parent : Withheld Item) (u : Task) : Type 0 where
   pub machine : machine_of u ≡ replied s zero_reply
@@ -240,7 +245,7 @@ pub record IsEntering (seen : Sight) (pid : ℕ) (s : State) (t : Withheld Item)
   pub reads : e.reads.items ≡ (entry_of pid e.plan).reads
   pub writes : e.writes.items ≡ (entry_of pid e.plan).writes
   pub spare : IsSpare e.plan.pipes.items e.spare
-  pub child : IsChild e.plan.child s t e.child
+  pub child : IsChild e.plan.child s t (unboxed e.child)
   pub next : e.next ≡ in_image_by s e.plan.verdict
 
 -- ---- what is done
@@ -325,7 +330,7 @@ pub record IsCarriedOut (e : EnterPlan) (old new : Task) (before later : System)
   pub kept : footprints.footprints ≡ before.footprints.footprints ++ footprint_of e.pid e.plan ∷ []
   pub rest : IsFinished e.pid e.plan mark (record before { dependencies = dependencies; footprints = footprints }) later
   pub told : IsTold e.plan.verdict mark before.served old new
-  pub made : (number : Option ℕ) (s : State) (parent : Withheld Item) → IsChild number s parent e.child → MakesTask number mark s parent child
+  pub made : (number : Option ℕ) (s : State) (parent : Withheld Item) → IsChild number s parent (unboxed e.child) → MakesTask number mark s parent child
   pub outcome_is : outcome ≡ outcome_of (item_of e.plan.verdict)
 
 -- what is shared after an Enter, whose event has this mark

@@ -12,7 +12,7 @@ use Rattle.machine_model.specs.States.{State, stopped_at}
 use Rattle.pipes.specs.Seen.{Seen}
 use Rattle.processes.specs.Table.{Table, HasRoom as HasChildRoom}
 use Rattle.held_output.specs.Withheld.{Withheld, whats}
-use Rattle.kernel_step.specs.Entering.{sight_in, entry_of, in_image_by, MayBeTold, MayPlan, HasSpaceFor, IsSpare, IsEntering, IsSystemWith}
+use Rattle.kernel_step.specs.Entering.{sight_in, entry_of, in_image_by, MayBeTold, MayPlan, HasSpaceFor, IsSpare, IsEntering, IsSystemWith, unboxed}
 use Rattle.kernel_step.specs.Tasks.{machine_of, out_of, status_of}
 use Rattle.kernel_step.specs.declared.plan.EnterPlan.{EnterPlan}
 use Rattle.kernel_step.specs.declared.system.System.{System}
@@ -99,7 +99,7 @@ pub record MayChangeSystem (s : System) (pid : ℕ) (plan : CallPlan) (pipe : Op
 -- the rest of an Enter may be done
 pub record IsReady (t : Task) (s : System) (e : EnterPlan) : Type 0 where
   pub task : TaskMayBeTold e.plan.verdict e.next t
-  pub child : ChildMayBeTold e.child
+  pub child : ChildMayBeTold (unboxed e.child)
   pub output : HasSpaceFor e.plan.output s.screens.items
   pub changes : vec_len s.changes < vec_capacity s.changes
   pub system : MayChangeSystem s e.pid e.plan e.spare

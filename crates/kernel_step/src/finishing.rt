@@ -9,7 +9,7 @@ ghost use Rattle.kernel_model.specs.Answers.{outcome_of};
 ghost use Rattle.kernel_model.specs.Entries.{Item};
 ghost use Rattle.kernel_model.specs.State.{read_by};
 ghost use Rattle.held_output.specs.Withheld.{Withheld};
-ghost use Rattle.kernel_step.specs.Entering.{entry_of, item_of, parts_after, with_children, IsSpare, IsTold, HasSpaceFor, ArePrinted, IsChild, MakesTask, IsNoted, IsFinished, IsCarriedOut};
+ghost use Rattle.kernel_step.specs.Entering.{entry_of, item_of, parts_after, with_children, IsSpare, IsTold, HasSpaceFor, ArePrinted, IsChild, MakesTask, IsNoted, IsFinished, IsCarriedOut, unboxed};
 ghost use Rattle.kernel_step.specs.Ready.{MayChangeParts, MayChangeSystem, IsReady, MayBeNoted};
 ghost use Rattle.kernel_step.specs.Waiting.{served_after};
 
@@ -193,7 +193,7 @@ fn finish(
     ensures outcome { result.0 ≡ outcome_of (item_of entering.plan.verdict) }
     ensures task { IsTold entering.plan.verdict mark system.old.served task.old task.new }
     ensures system { IsFinished entering.pid entering.plan mark system.old system.new }
-    ensures child { (number : Option ℕ) (s : State) (parent : Withheld Item) → IsChild number s parent entering.child → MakesTask number mark s parent result.1 }
+    ensures child { (number : Option ℕ) (s : State) (parent : Withheld Item) → IsChild number s parent (unboxed entering.child) → MakesTask number mark s parent result.1 }
 {
     let before = system.served;
     let EnterPlan {

@@ -8,7 +8,7 @@ ghost use Rattle.kernel_model.specs.Shown.{end_in};
 ghost use Rattle.kernel_model.specs.Steps.{zero_reply};
 ghost use Rattle.held_output.specs.Withheld.{whats};
 ghost use Rattle.kernel_model.specs.declared.carrier.Carrier.TheVariants.{Proc};
-ghost use Rattle.kernel_step.specs.Entering.{sight_in, writes_of, in_image_by, MayBeTold, MayPlan, AreSteps, IsSpare, PlansEnter, IsEntering, IsChild};
+ghost use Rattle.kernel_step.specs.Entering.{sight_in, writes_of, in_image_by, MayBeTold, MayPlan, AreSteps, IsSpare, PlansEnter, IsEntering, IsChild, unboxed};
 ghost use Rattle.kernel_step.specs.Ready.{MayEnter};
 
 use crate::system::System;
@@ -16,7 +16,7 @@ use crate::task::Task;
 use calls::{CallPlan, PipeStep, Verdict, plan_call, plan_end, request_of};
 use commit_deps::Carrier;
 use held_output::Trace;
-use machine::Machine;
+use machine::{Machine, SharedMachine};
 use machine_model::{Cause, Reply, Stop};
 use pipes::Pipe;
 use processes::{Descriptors, ProcTable};
@@ -40,8 +40,8 @@ pub struct EnterPlan {
     pub reads: Vec<Carrier>,
     pub writes: Vec<Carrier>,
     pub spare: Option<Pipe>,
-    pub child: Option<Task>,
-    pub next: Option<Machine>,
+    pub child: Option<Box<Task>>,
+    pub next: Option<SharedMachine>,
 }
 
 fn trap_status(cause: Cause) -> u32
@@ -128,18 +128,18 @@ fn prepare_child(
     number: Option<u32>,
     machine: &Machine,
     trace: &Trace,
-) -> Result<Option<Task>, AllocError>
+) -> Result<Option<Box<Task>>, AllocError>
     requires stands { is_some number ≡ true → stopped_at machine.now ≡ Some Stop.Call }
     requires budget { machine.now.count < 2 ^ 40 }
     requires running { end_in (whats trace.now.items) ≡ None }
-    ensures { IfOk result (λ child. IsChild number machine.now trace.now child) }
+    ensures { IfOk result (λ child. IsChild number machine.now trace.now (unboxed child)) }
 {
     let Some(pid) = number else {
         return Ok(None);
     };
     let machine = forked_machine(alloc, machine)?;
     let trace = trace.forked(alloc)?;
-    let child = Task::made(alloc, pid, machine, trace)?;
+    let child = Box::new(alloc, Task::made(alloc, pid, machine, trace)?)?;
     Ok(Some(child))
 }
 
@@ -148,7 +148,7 @@ fn prepare_next(
     alloc: Global,
     verdict: &Verdict,
     machine: &Machine,
-) -> Result<Option<Machine>, AllocError>
+) -> Result<Option<SharedMachine>, AllocError>
     requires fine { MayBeTold machine.now verdict.now }
     requires budget { machine.now.count < 2 ^ 40 }
     ensures { IfOk result (λ next. next ≡ in_image_by machine.now verdict.now) }
@@ -158,7 +158,7 @@ fn prepare_next(
     };
     match reply.image() {
         Some(image) => {
-            let next = machine.entered(alloc, image)?;
+            let next = SharedMachine::new(alloc, machine.entered(alloc, image)?)?;
             Ok(Some(next))
         }
         None => Ok(None),

@@ -115,11 +115,11 @@ impl ReplicatedMachine {
     }
 
     /// Another machine takes this one's place. Takes no memory.
-    pub fn put(&mut self, machine: Machine)
+    pub fn put(&mut self, machine: SharedMachine)
         ensures { self.new ≡ machine }
     {
         self.replica = None;
-        self.machine.put(machine);
+        self.machine = machine;
     }
 
     /// The state from which its next loan begins: the replica, or else the machine, by `SharedMachine::share`. Before its first loan

@@ -6,7 +6,7 @@ ghost use Rattle.kernel_model.specs.Answers.{outcome_of};
 ghost use Rattle.kernel_model.specs.Entries.{Item};
 ghost use Rattle.held_output.specs.Withheld.{Withheld};
 ghost use Rattle.kernel_model.specs.declared.request.Verdict.TheVariants.{Replies as Told};
-ghost use Rattle.kernel_step.specs.Entering.{item_of, in_image_by, MayBeTold, IsTold, IsChild, MakesTask};
+ghost use Rattle.kernel_step.specs.Entering.{item_of, in_image_by, MayBeTold, IsTold, IsChild, MakesTask, unboxed};
 ghost use Rattle.kernel_step.specs.Ready.{TaskMayBeTold, ChildMayBeTold};
 
 use crate::replicated::ReplicatedMachine;
@@ -15,12 +15,12 @@ use crate::whereabouts::Whereabouts;
 use calls::Verdict;
 use commit_deps::Mark;
 use kernel_model::Outcome;
-use machine::Machine;
+use machine::SharedMachine;
 use machine_model::Reply;
 
 /// A machine goes on after the reply to its call. If the reply has an image, it goes on as `next`, which was entered from its
 /// state.
-fn go_on(machine: &mut ReplicatedMachine, reply: &Reply, next: Option<Machine>)
+fn go_on(machine: &mut ReplicatedMachine, reply: &Reply, next: Option<SharedMachine>)
     requires told { MayBeTold machine.old (Told reply.now) }
     requires budget { machine.old.count < 2 ^ 40 }
     requires next { next ≡ in_image_by machine.old (Told reply.now) }
@@ -34,7 +34,7 @@ fn go_on(machine: &mut ReplicatedMachine, reply: &Reply, next: Option<Machine>)
 
 /// A process whose machine is here gets the reply to its call, by an event of this mark. It goes on with `next`, if the reply has
 /// an image. Takes no memory.
-fn take_reply(task: &mut Task, reply: Reply, next: Option<Machine>, mark: Mark)
+fn take_reply(task: &mut Task, reply: Reply, next: Option<SharedMachine>, mark: Mark)
     requires { TaskMayBeTold (Told reply) next task.old }
     ensures { (served : ℕ) → IsTold (Told reply) mark served task.old task.new }
 {
@@ -50,7 +50,7 @@ fn take_reply(task: &mut Task, reply: Reply, next: Option<Machine>, mark: Mark)
 pub fn tell(
     task: &mut Task,
     verdict: Verdict,
-    next: Option<Machine>,
+    next: Option<SharedMachine>,
     served: u64,
     mark: Mark,
 ) -> Outcome
@@ -75,11 +75,11 @@ pub fn tell(
 }
 
 /// A process that was made, if one was, is told 0 by an event of this mark. Takes no memory.
-pub fn tell_child(child: Option<Task>, mark: Mark) -> Option<Task>
-    requires { ChildMayBeTold child }
-    ensures { (number : Option ℕ) (s : State) (parent : Withheld Item) → IsChild number s parent child → MakesTask number mark s parent result }
+pub fn tell_child(child: Option<Box<Task>>, mark: Mark) -> Option<Task>
+    requires { ChildMayBeTold (unboxed child) }
+    ensures { (number : Option ℕ) (s : State) (parent : Withheld Item) → IsChild number s parent (unboxed child) → MakesTask number mark s parent result }
 {
-    let mut child = child?;
+    let mut child = Box::into_inner(child?);
     child.trace.reply(Reply::number(0), mark);
     Some(child)
 }
