@@ -140,10 +140,10 @@ done:
 
 
 class Cost:
-    """Seconds, and bytes of memory, of one thing."""
+    """Seconds, those of them in the host's kernel where they are told, and bytes of memory, of one thing."""
 
-    def __init__(self, seconds, memory=None):
-        self.seconds, self.memory = seconds, memory
+    def __init__(self, seconds, memory=None, host=None):
+        self.seconds, self.memory, self.host = seconds, memory, host
 
     def without(self, other, times=1):
         both = self.memory is not None and other.memory is not None
@@ -154,6 +154,9 @@ class Cost:
 
     def time(self):
         return Cost(self.seconds)
+
+    def of_host(self):
+        return Cost(self.host)
 
 
 class Measures:
@@ -173,7 +176,7 @@ class Measures:
     def between(self, few, many, by):
         """What each of so many more things takes, of two runs."""
         one, other = self.bench.time(few, looks=True), self.bench.time(many, looks=True)
-        return Cost((other.processor - one.processor) / by, (other.memory - one.memory) / by)
+        return Cost(*((getattr(other, it) - getattr(one, it)) / by for it in ("processor", "memory", "host")))
 
     def run(self, source, *options, **numbers):
         return Run(("run", "--workers=1", *options, self.image(source, **numbers)))
@@ -256,6 +259,7 @@ def a_fork(m):
     for pages in (1, 51):
         costs[pages] = m.per(FORKS, 20, 220, calls=1, pages=pages)
         yield f"`fork`, `exit` and `wait` of a child with {of_data(pages)}", costs[pages]
+    yield "of that the host's, which gives memory that is used for the first time", costs[51].of_host()
     late = m.per(FORKS, 20, 220, calls=5_000, pages=1)
     yield "the same, for each reply that the parent had had", late.without(costs[1]).by(5_000)
 

@@ -127,10 +127,12 @@ def jump_word(far):
 
 
 class Used(NamedTuple):
-    """What a run took: seconds from its beginning to its end, seconds of processors, and, where it was looked for, bytes of memory."""
+    """What a run took: seconds from its beginning to its end, seconds of processors, those of them in the host's kernel, and, where it
+    was looked for, bytes of memory."""
 
     wall: float
     processor: float
+    host: float
     memory: int
 
 
@@ -190,7 +192,7 @@ class Started:
         if self.process.returncode or not has_ended or not printed.startswith(self.run.given):
             words = shlex.join([self.bench, *self.run.words])
             sys.exit(f"{words}: status {self.process.returncode}, printed {printed[:200]!r}, said {said[-300:]!r}")
-        return Used(wall, used.ru_utime + used.ru_stime, peak)
+        return Used(wall, used.ru_utime + used.ru_stime, used.ru_stime, peak)
 
 
 class Bench:
@@ -203,7 +205,8 @@ class Bench:
         """Runs the program once for each of these, all at the same time. Returns what they took: the longest time, the sums of the rest."""
         started = [Started(self.path, it, self.room) for it in runs]
         ended = [it.end(looks) for it in started]
-        return Used(max(it.wall for it in ended), sum(it.processor for it in ended), sum(it.memory for it in ended))
+        sums = [sum(numbers) for numbers in zip(*(it[1:] for it in ended))]
+        return Used(max(it.wall for it in ended), *sums)
 
     def file(self, content, suffix):
         self.names += 1
