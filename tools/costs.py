@@ -176,7 +176,8 @@ class Measures:
     def between(self, few, many, by):
         """What each of so many more things takes, of two runs."""
         one, other = self.bench.time(few, looks=True), self.bench.time(many, looks=True)
-        return Cost(*((getattr(other, it) - getattr(one, it)) / by for it in ("processor", "memory", "host")))
+        seconds, memory, host = other.processor - one.processor, other.memory - one.memory, other.host - one.host
+        return Cost(seconds / by, memory / by, host / by)
 
     def run(self, source, *options, **numbers):
         return Run(("run", "--workers=1", *options, self.image(source, **numbers)))
@@ -261,7 +262,7 @@ def a_fork(m):
         yield f"`fork`, `exit` and `wait` of a child with {of_data(pages)}", costs[pages]
     yield "of that the host's, which gives memory that is used for the first time", costs[51].of_host()
     late = m.per(FORKS, 20, 220, calls=5_000, pages=1)
-    yield "the same, for each reply that the parent had had", late.without(costs[1]).by(5_000)
+    yield "a `fork`, for each reply that the parent had had", late.without(costs[1]).by(5_000)
 
 
 def an_exec(m):
