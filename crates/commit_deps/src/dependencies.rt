@@ -131,6 +131,17 @@ impl Dependencies {
         self.greatest(own_mark(change), reads)
     }
 
+    /// The changes on which the next event rests that reads this carrier and these, and makes this change, by its number from 0. So a
+    /// caller need not list them all. It is asked before `note`, which changes the marks.
+    pub fn mark_with(&self, first: Carrier, reads: &[Carrier], change: Option<u64>) -> Mark
+        requires { ForSome change (λ k. k + 1 < 2 ^ 64) }
+        ensures { (log : List Entry) (e : Entry) → Keeps log self.now.marks → e.reads ≡ first ∷ reads.now
+            → change ≡ change_number log e → IsMarkOf result log e }
+    {
+        let mark = self.greatest(own_mark(change), &[first]);
+        self.greatest(mark, reads)
+    }
+
     /// Makes room to note so many written carriers. The marks stay, whether it succeeds or not.
     pub fn reserve(&mut self, writes: usize) -> Result<(), AllocError>
         ensures ok { OnOk result (writes ≤ self.new.room) }
@@ -172,8 +183,8 @@ impl Dependencies {
         }
     }
 
-    /// Notes an event of this mark that writes these carriers. Takes no memory: those that no event wrote need room.
-    fn note(&mut self, writes: &[Carrier], mark: Mark)
+    /// Notes an event of this mark (`mark_with`) that writes these carriers. Takes no memory: those that no event wrote need room.
+    pub fn note(&mut self, writes: &[Carrier], mark: Mark)
         requires { unwritten_count writes.now self.old.marks ≤ self.old.room }
         ensures keeps { (log : List Entry) (e : Entry) → Keeps log self.old.marks → IsMarkOf mark log e
             → e.writes ≡ writes.now → Keeps (log ++ e ∷ []) self.new.marks }

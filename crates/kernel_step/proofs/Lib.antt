@@ -18,6 +18,7 @@ pub mod LendNext
 pub mod LendPick
 pub mod Holding
 pub mod Lists
+pub mod Marking
 pub mod Moving
 pub mod Noting
 pub mod Performing

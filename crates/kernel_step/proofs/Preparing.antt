@@ -82,6 +82,5 @@ may-note m trace later s s1 d pid history e prepared holds room =
       room = room;
       footprint = holds.footprint;
       carriers = holds.carriers;
-      reads = subst (λ (k : ℕ). e.reads.items ≡ (entry_of k e.plan).reads) (sym entering.process) entering.reads;
       writes = subst (λ (k : ℕ). e.writes.items ≡ (entry_of k e.plan).writes) (sym entering.process) entering.writes;
     }

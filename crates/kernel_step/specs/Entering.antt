@@ -237,12 +237,11 @@ MakesTask number mark s parent (Some u) = (number ≡ Some u.pid) × IsForked ma
 
 -- ---- what is prepared
 
--- the plan of an Enter of process pid, where its machine and trace are these, all carriers that its event reads and writes, the
--- pipe and the process that it makes, and the machine with which the process goes on where its reply has an image
+-- the plan of an Enter of process pid, where its machine and trace are these, all carriers that its event writes, the pipe and the
+-- process that it makes, and the machine with which the process goes on where its reply has an image
 pub record IsEntering (seen : Sight) (pid : ℕ) (s : State) (t : Withheld Item) (e : EnterPlan) : Type 0 where
   pub process : e.pid ≡ pid
   pub plan : PlansEnter seen pid s e.plan
-  pub reads : e.reads.items ≡ (entry_of pid e.plan).reads
   pub writes : e.writes.items ≡ (entry_of pid e.plan).writes
   pub spare : IsSpare e.plan.pipes.items e.spare
   pub child : IsChild e.plan.child s t (unboxed e.child)

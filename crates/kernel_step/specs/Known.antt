@@ -8,8 +8,8 @@ use Rattle.kernel_step.specs.Tasks.{machine_of, out_of}
 use Rattle.kernel_step.specs.declared.loan.Done.{Done}
 use Rattle.kernel_step.specs.declared.task.Task.{Task}
 
--- What is known of loan n of process p, which began from state s: there were as many loans of the process, and where it is out on
--- this one, the state that is kept of it is s.
+-- What is known of loan n of process p, which began from state s: there were at least as many loans of the process, and where it
+-- is out on this one, the state that is kept of it is s.
 pub record IsKnownLoan (k : Kernel) (p n : ℕ) (s : State) : Type 0 where
   pub given : n ≤ loan_count k p
   pub began : is_lent k p ≡ true → loan_count k p ≡ n → option_map (λ (x : Process). x.state) (process_of k p) ≡ Some s

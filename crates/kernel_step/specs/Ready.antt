@@ -52,13 +52,11 @@ pub record IsPrepared (pid : ℕ) (m : State) (trace : Withheld Item) (old new :
   pub entering : IsEntering (sight_in old) pid m trace e
   pub changed : IsSystemWith (changed_by old.files e.plan.change) old new
 
--- the event of an Enter may be noted: there is room for what it writes, and for its footprint, and what it reads and writes is what its
--- plan says
+-- the event of an Enter may be noted: there is room for what it writes, and for its footprint, and what it writes is what its plan says
 pub record MayBeNoted (s : System) (e : EnterPlan) : Type 0 where
   pub room : length e.writes.items ≤ s.dependencies.room
   pub footprint : 1 ≤ s.footprints.enter_room
   pub carriers : length e.plan.reads.items + length e.writes.items ≤ s.footprints.carrier_room
-  pub reads : e.reads.items ≡ (entry_of e.pid e.plan).reads
   pub writes : e.writes.items ≡ (entry_of e.pid e.plan).writes
 
 -- ---- the rest of an Enter

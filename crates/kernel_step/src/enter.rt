@@ -4,7 +4,7 @@ ghost use Rattle.machine_model.specs.States.{stopped_at};
 ghost use Rattle.kernel_model.specs.Answers.{Refuses, entered as answer_to};
 ghost use Rattle.kernel_model.specs.World.{Boot};
 ghost use Rattle.kernel_step.specs.Represents.{Represents, Steps};
-ghost use Rattle.kernel_step.specs.Entering.{IsDone};
+ghost use Rattle.kernel_step.specs.Entering.{IsDone, unboxed};
 ghost use Rattle.kernel_step.specs.Ready.{MayEnter};
 ghost use Rattle.kernel_step.specs.Trying.{is_history_full, MayTryEnter, IsEnterAccepted, IsEnterRefused};
 ghost use Rattle.kernel_step.specs.Tasks.{machine_of, out_of};
@@ -36,12 +36,12 @@ fn entered(outcome: Outcome) -> Answer
 }
 
 /// A process that was made comes after the others. Takes no memory.
-pub fn join(tasks: &mut Vec<Task>, child: Option<Task>)
+pub fn join(tasks: &mut Vec<Task>, child: Option<Box<Task>>)
     requires { vec_len tasks.old < vec_capacity tasks.old }
-    ensures { tasks.new.items ≡ tasks.old.items ++ option_to_list child }
+    ensures { tasks.new.items ≡ tasks.old.items ++ option_to_list (unboxed child) }
 {
     if let Some(child) = child {
-        tasks.push(child).unwrap();
+        tasks.push(Box::into_inner(child)).unwrap();
     }
 }
 
@@ -53,11 +53,11 @@ fn enter_task(
     pid: u32,
     stop: Stop,
     task: &mut Task,
-) -> Result<(Outcome, Option<Task>), AllocError>
+) -> Result<(Outcome, Option<Box<Task>>), AllocError>
     requires here { out_of task.old ≡ None }
     requires stands { stopped_at (machine_of task.old) ≡ Some stop }
     requires fine { MayEnter system.old pid (machine_of task.old) task.old.trace }
-    ensures done { IfOk result (λ r. IsDone pid task.old task.new system.old system.new r.0 r.1) }
+    ensures done { IfOk result (λ r. IsDone pid task.old task.new system.old system.new r.0 (unboxed r.1)) }
     ensures history { OnOk result (history.new.items ≡ history.old.items ++ Event.Enter pid ∷ []) }
     ensures err { OnErr result (AreUnchanged task.old task.new system.old system.new history.old.items history.new.items) }
 {

@@ -18,7 +18,7 @@ use crate::replies::{tell, tell_child};
 use crate::system::System;
 use crate::task::Task;
 use calls::{CallPlan, PipeStep, Slot, Verdict};
-use commit_deps::{Dependencies, Mark};
+use commit_deps::{Carrier, Dependencies, Mark};
 use disk_model::Change;
 use held_output::Withheld;
 use kernel_model::{Event, Outcome, Output};
@@ -39,14 +39,14 @@ fn change_number(change: &Option<Change>, changes: usize) -> Option<u64>
 fn note_enter(dependencies: &mut Dependencies, entering: &EnterPlan, changes: usize) -> Mark
     requires room { length entering.now.writes.items ≤ dependencies.old.room }
     requires few { changes < 2 ^ 63 }
-    requires reads { entering.now.reads.items ≡ (entry_of entering.now.pid entering.now.plan).reads }
     requires writes { entering.now.writes.items ≡ (entry_of entering.now.pid entering.now.plan).writes }
     ensures { IsNoted (entry_of entering.now.pid entering.now.plan) changes dependencies.old.marks dependencies.new.marks result }
 {
     let change = change_number(&entering.plan.change, changes);
-    dependencies
-        .event(&entering.reads, &entering.writes, change)
-        .unwrap()
+    let own = Carrier::Proc(entering.pid);
+    let mark = dependencies.mark_with(own, &entering.plan.reads, change);
+    dependencies.note(&entering.writes, mark);
+    mark
 }
 
 /// Appends an event's output to its terminal, if there is one of its number. Takes no memory.
@@ -188,12 +188,12 @@ fn finish(
     system: &mut System,
     entering: EnterPlan,
     mark: Mark,
-) -> (Outcome, Option<Task>)
+) -> (Outcome, Option<Box<Task>>)
     requires { IsReady task.old system.old entering }
     ensures outcome { result.0 ≡ outcome_of (item_of entering.plan.verdict) }
     ensures task { IsTold entering.plan.verdict mark system.old.served task.old task.new }
     ensures system { IsFinished entering.pid entering.plan mark system.old system.new }
-    ensures child { (number : Option ℕ) (s : State) (parent : Withheld Item) → IsChild number s parent (unboxed entering.child) → MakesTask number mark s parent result.1 }
+    ensures child { (number : Option ℕ) (s : State) (parent : Withheld Item) → IsChild number s parent (unboxed entering.child) → MakesTask number mark s parent (unboxed result.1) }
 {
     let before = system.served;
     let EnterPlan {
@@ -220,11 +220,11 @@ pub fn carry_out(
     system: &mut System,
     task: &mut Task,
     entering: EnterPlan,
-) -> (Outcome, Option<Task>)
+) -> (Outcome, Option<Box<Task>>)
     requires ready { IsReady task.old system.old entering }
     requires noting { MayBeNoted system.old entering }
     requires events { vec_len history.old < vec_capacity history.old }
-    ensures carried { IsCarriedOut entering task.old task.new system.old system.new result.0 result.1 }
+    ensures carried { IsCarriedOut entering task.old task.new system.old system.new result.0 (unboxed result.1) }
     ensures history { history.new.items ≡ history.old.items ++ Event.Enter entering.pid ∷ [] }
 {
     let pid = entering.pid;

@@ -142,8 +142,7 @@ impl Running {
         Ok(Some(self.lend_at(place, quantum)?))
     }
 
-    /// Lends this process, where it is lendable, whichever was lent last. None where it is not, and where the history or the memory has
-    /// no room for a loan. The clauses speak of every boot of which these are the parts.
+    /// As `Core::lend_again`. The clauses speak of every boot of which these are the parts.
     pub fn lend_again(&mut self, pid: u32, quantum: u32) -> Option<Loan>
         requires { (b : Boot) × Represents b self.old }
         ensures stands { (b : Boot) → Represents b self.old → Represents b self.new }

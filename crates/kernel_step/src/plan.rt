@@ -30,14 +30,13 @@ pub struct Caller<'a> {
     pub stop: Stop,
 }
 
-/// What an Enter of a process comes to; the process is not told anything yet. The carriers are all that its event reads and writes.
+/// What an Enter of a process comes to; the process is not told anything yet. `writes` are all carriers that its event writes.
 /// `spare` and `child` are the pipe and the process that it makes, if it makes one. The process goes on with `next`, if its reply
-/// has an image.
+/// has an image. `child` and `next` stand in boxes: few calls have them, and each call moves this value.
 #[derive(Drop)]
 pub struct EnterPlan {
     pub pid: u32,
     pub plan: CallPlan,
-    pub reads: Vec<Carrier>,
     pub writes: Vec<Carrier>,
     pub spare: Option<Pipe>,
     pub child: Option<Box<Task>>,
@@ -174,7 +173,6 @@ impl EnterPlan {
     {
         let alloc = system.alloc;
         let plan = plan_enter(system, caller)?;
-        let reads = with_own(alloc, caller.pid, &plan.reads)?;
         let writes = all_writes(alloc, caller.pid, &plan)?;
         let spare = spare_pipe(alloc, &plan.pipes)?;
         let child = prepare_child(alloc, plan.child, caller.machine, trace)?;
@@ -182,7 +180,6 @@ impl EnterPlan {
         Ok(EnterPlan {
             pid: caller.pid,
             plan,
-            reads,
             writes,
             spare,
             child,

@@ -75,11 +75,11 @@ pub fn tell(
 }
 
 /// A process that was made, if one was, is told 0 by an event of this mark. Takes no memory.
-pub fn tell_child(child: Option<Box<Task>>, mark: Mark) -> Option<Task>
+pub fn tell_child(child: Option<Box<Task>>, mark: Mark) -> Option<Box<Task>>
     requires { ChildMayBeTold (unboxed child) }
-    ensures { (number : Option ℕ) (s : State) (parent : Withheld Item) → IsChild number s parent (unboxed child) → MakesTask number mark s parent result }
+    ensures { (number : Option ℕ) (s : State) (parent : Withheld Item) → IsChild number s parent (unboxed child) → MakesTask number mark s parent (unboxed result) }
 {
-    let mut child = Box::into_inner(child?);
+    let mut child = child?;
     child.trace.reply(Reply::number(0), mark);
     Some(child)
 }

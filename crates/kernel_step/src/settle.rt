@@ -6,7 +6,7 @@ ghost use Rattle.kernel_step.specs.Known.{IsKnownResult, MayBeLoanOf};
 ghost use Rattle.kernel_step.specs.Represents.{Represents, TakesBack, kernel_in};
 ghost use Rattle.kernel_model.specs.declared.answer.Outcome.{Outcome};
 ghost use Rattle.held_output.specs.Withheld.{IsSame};
-ghost use Rattle.kernel_step.specs.Entering.{IsSameSystem};
+ghost use Rattle.kernel_step.specs.Entering.{IsSameSystem, unboxed};
 ghost use Rattle.kernel_step.specs.Ready.{MayEnter, HasRoomForEnter, IsPrepared};
 ghost use Rattle.kernel_step.specs.Settling.{IsLoanOf, IsBack, MaySettleTurn, IsTurnSettled, IsTurnEntered, MaySettleCall, IsCallSettled, IsNotSettled, LackedMemory};
 ghost use Rattle.kernel_step.specs.Unchanged.{AreUnchanged};
@@ -100,11 +100,11 @@ fn settle_enter(
     task: &mut Task,
     done: Done,
     standing: Stop,
-) -> Result<(Answer, Option<Task>), Rejected>
+) -> Result<(Answer, Option<Box<Task>>), Rejected>
     requires fine { MayEnter system.old done.pid done.machine task.old.trace }
     requires stands { stopped_at done.machine ≡ Some standing }
     ensures done { IfOk result (λ r. (o : Outcome) × (r.0 ≡ Answer.Settled done.count done.stop (Some o))
-        × IsTurnEntered done.pid done.machine task.old task.new system.old system.new o r.1) }
+        × IsTurnEntered done.pid done.machine task.old task.new system.old system.new o (unboxed r.1)) }
     ensures history { OnOk result (history.new.items ≡ history.old.items ++ Event.Turn done.pid done.count ∷ Event.Enter done.pid ∷ []) }
     ensures err { OnErr result (AreUnchanged task.old task.new system.old system.new history.old.items history.new.items) }
     ensures back { IfErr result (LackedMemory done) }

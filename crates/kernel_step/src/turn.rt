@@ -36,8 +36,9 @@ pub fn note_own(dependencies: &mut Dependencies, pid: u32)
     ensures noted { IsOwnNoted pid dependencies.old.marks dependencies.new.marks }
     ensures room { dependencies.old.room ≤ dependencies.new.room + 1 }
 {
-    let own = [Carrier::Proc(pid)];
-    dependencies.event(&own, &own, None).unwrap();
+    let own = Carrier::Proc(pid);
+    let mark = dependencies.mark_with(own, &[], None);
+    dependencies.note(&[own], mark);
 }
 
 impl Running {

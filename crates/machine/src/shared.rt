@@ -119,13 +119,6 @@ impl SharedMachine {
         Ok(SharedMachine { form })
     }
 
-    /// Another machine, that nobody else looks at, takes this one's place. Takes no memory.
-    pub fn put(&mut self, machine: Machine)
-        ensures { self.new ≡ machine }
-    {
-        *self.form = Form::Whole(machine);
-    }
-
     /// The machine, as long as this one stays as it is.
     pub fn machine(&self) -> &Machine
         ensures { result.now ≡ self.now }

@@ -3,6 +3,7 @@ use Rattle.std.proofs.Common.{◌≡◌, ◌∙◌, ◌++◌, [], ◌∷◌, ℕ
 use Rattle.kernel_model.specs.declared.event.Event.{Event}
 use Rattle.kernel_model.specs.declared.event.Event.TheVariants.{Enter}
 use Rattle.machine_model.specs.States.{State, stopped_at}
+use Rattle.kernel_step.specs.Entering.{unboxed}
 use Rattle.kernel_step.specs.Ready.{MayEnter}
 use Rattle.kernel_step.specs.Tasks.{machine_of}
 use Rattle.kernel_step.specs.declared.task.Task.{Task}
@@ -38,7 +39,7 @@ pub returns-clause-done : goal.returns-clause-done
 returns-clause-done c =
     let t : Task = c.args.task.now in
     carried-done c.args.pid c.machine-machine.result.now t (record t { trace = c.prepare.new.trace }) c.carry_out.new.task c.args.system.now c.prepare.new.system
-    c.carry_out.new.system c.in_ok-entering.entering c.carry_out.result.0 c.carry_out.result.1 (sym c.machine-machine.ensures) c.in_ok-entering.ensures.prepared
+    c.carry_out.new.system c.in_ok-entering.entering c.carry_out.result.0 (unboxed c.carry_out.result.1) (sym c.machine-machine.ensures) c.in_ok-entering.ensures.prepared
     (record { pid = refl; machine = refl; trace = c.in_ok-entering.ensures.trace; waited = refl; loans = refl; out = refl })
     c.carry_out.ensures.carried
 

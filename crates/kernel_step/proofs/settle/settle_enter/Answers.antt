@@ -4,6 +4,7 @@ use Rattle.std.proofs.lemmas.List.{append_assoc}
 use Rattle.commit_deps.specs.Kept.{Marked}
 use Rattle.kernel_model.specs.declared.event.Event.{Event}
 use Rattle.kernel_model.specs.declared.event.Event.TheVariants.{Turn, Enter}
+use Rattle.kernel_step.specs.Entering.{unboxed}
 use Rattle.kernel_step.specs.Parts.{IsOwnNoted}
 use Rattle.kernel_step.specs.Settling.{marked_with}
 use Rattle.kernel_step.specs.declared.task.Task.{Task}
@@ -47,7 +48,7 @@ returns-clause-done c =
         turn = subst (λ (ms : List Marked). IsOwnNoted c.args.done.pid ms turned.marks) prepared.changed.marks c.note_own.ensures.noted;
         entered =
             carried-done c.args.done.pid m middle c.come_back.new.task c.carry_out-outcome.new.task (marked_with s turned.marks) (record s1 { dependencies = turned })
-            c.carry_out-outcome.new.system c.in-Ok.entering c.carry_out-outcome.result.0 c.carry_out-outcome.result.1 refl
+            c.carry_out-outcome.new.system c.in-Ok.entering c.carry_out-outcome.result.0 (unboxed c.carry_out-outcome.result.1) refl
             (record { entering = prepared.entering; changed = shared-turned _ s s1 turned prepared.changed })
             (record {
               pid = back.pid;

@@ -1,5 +1,6 @@
 -- The child comes after the others.
 use Rattle.std.proofs.Common.{◌≡◌, ◌<◌, ◌++◌, ◌∙◌, ℕ, ◌+◌, List, Some, length, refl, slice_get, slice_set, option_to_list, ap, sym, subst, arith}
+use Rattle.kernel_step.specs.Entering.{unboxed}
 use Rattle.kernel_step.specs.declared.task.Task.{Task}
 use Rattle.kernel_step.proofs.EnterResults.{on-err-any}
 use Rattle.kernel_step.proofs.Lists.{get-there}
@@ -24,10 +25,10 @@ returns-clause-done c =
       task = c.index_mut-task.result.now;
       there = there (goal.at.returns-clause-done c).After-index_mut-task;
       after = c.settle_enter.new.task;
-      child = c.in_ok-answer.child;
+      child = unboxed c.in_ok-answer.child;
       outcome = done.0;
       entered = done.2;
-      tasks = c.join.ensures ∙ ap (λ (ts : List Task). slice_set ts c.args.place c.settle_enter.new.task ++ option_to_list c.in_ok-answer.child) c.reserve.ensures.items;
+      tasks = c.join.ensures ∙ ap (λ (ts : List Task). slice_set ts c.args.place c.settle_enter.new.task ++ option_to_list (unboxed c.in_ok-answer.child)) c.reserve.ensures.items;
       history = c.in_ok-answer.ensures.history;
       ran = ap (λ (n : ℕ). c.args.self.now.ran + n) c.from-count.ensures;
       out = omega (arith, c.requires.fine.some);

@@ -6,7 +6,7 @@ use Rattle.kernel_model.specs.Answers.{entered as answer_to}
 use Rattle.kernel_model.specs.World.{World, happens}
 use Rattle.kernel_model.specs.declared.answer.Outcome.{Outcome}
 use Rattle.kernel_model.specs.declared.event.Event.TheVariants.{Enter}
-use Rattle.kernel_step.specs.Entering.{IsDone}
+use Rattle.kernel_step.specs.Entering.{IsDone, unboxed}
 use Rattle.kernel_step.specs.Mirrors.{Mirrors}
 use Rattle.kernel_step.specs.Tests.{IsPlaceOf, enter_refusal_of}
 use Rattle.kernel_step.specs.Tasks.{machine_of, lending_of}
@@ -72,7 +72,7 @@ pub returns-clause-done : goal.returns-clause-done
 returns-clause-done c =
     let tasks : List Task = c.args.self.now.tasks.items in
     let u : Task = c.enter_task.new.task in
-    let child : Option Task = c.in_ok-outcome.child in
+    let child : Option Task = unboxed c.in_ok-outcome.child in
     let run = runs (goal.at.returns-clause-done c).After-index_mut-task u c.enter_task.new.system c.in_ok-outcome.outcome child c.in_ok-outcome.ensures.done in
     let grown : c.join.new.tasks.items ≡ slice_set tasks c.in_ok-place.place u ++ option_to_list child =
     c.join.ensures ∙ ap (λ (ts : List Task). slice_set ts c.in_ok-place.place u ++ option_to_list child) c.in_ok-reserve.ensures.items in
