@@ -35,11 +35,11 @@ first_fewer ps first begins =
 
 -- the run of the calls before a place, after the call there
 pub next_made : (r : Runs) (ps : List ℕ) (place : ℕ) (x y : Replay) → place < length ps → IsRunOf r (take place ps) x
-    → seen_of y.core ≡ (moves x.limit).go (seen_of x.core) (get_or ps place 0) → y.core.boot ≡ x.core.boot → y.limit ≡ x.limit → IsRunOf r (take (place + 1) ps) y
-next_made r ps place x y below run moved boot limit =
+    → seen_of y.core ≡ (moves x.limit).go (seen_of x.core) (get_or ps place 0) → y.limit ≡ x.limit → IsRunOf r (take (place + 1) ps) y
+next_made r ps place x y below run moved limit =
     let next : take (place + 1) ps ≡ take place ps ++ get_or ps place 0 ∷ [] =
     ap (λ j. take j ps) (let is : place + 1 ≡ suc place = omega arith in is) ∙ take-suc ps place 0 below in
-    subst (λ (qs : List ℕ). IsRunOf r qs y) (sym next) (call_more r (take place ps) (get_or ps place 0) x y run moved boot limit)
+    subst (λ (qs : List ℕ). IsRunOf r qs y) (sym next) (call_more r (take place ps) (get_or ps place 0) x y run moved limit)
 
 -- in the end all of them were made
 pub all_made : (r : Runs) (ps : List ℕ) (place : ℕ) (x : Replay) → length ps ≤ place → IsRunOf r (take place ps) x → IsRunOf r ps x

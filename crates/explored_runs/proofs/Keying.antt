@@ -2,7 +2,6 @@
 use Rattle.std.proofs.Common.{◌≡◌, ◌∙◌, ◌++◌, ◌∷◌, [], ℕ, List, ap, subst, sym}
 use Rattle.std.specs.Global.{Vec}
 use Rattle.kernel_model.specs.Limits.{AreNumbered}
-use Rattle.kernel_model.specs.World.{Boot}
 use Rattle.order_laws.specs.Moves.{Seen, calls}
 use Rattle.order_laws.proofs.Calls.{calls_commute}
 use Rattle.order_laws.proofs.Choosing.{reached-append}
@@ -23,9 +22,9 @@ module _ (r : Runs) (ps : List ℕ) where
   }
 
   -- after one call more it is that of these calls, and that one
-  pub call_more : (p : ℕ) (x y : Replay) → IsRunOf r ps x → seen_of y.core ≡ (calls x.limit).go (seen_of x.core) p → y.core.boot ≡ x.core.boot → y.limit ≡ x.limit
+  pub call_more : (p : ℕ) (x y : Replay) → IsRunOf r ps x → seen_of y.core ≡ (calls x.limit).go (seen_of x.core) p → y.limit ≡ x.limit
       → IsRunOf r (ps ++ p ∷ []) y
-  call_more p x y run moved boot limit = record {
+  call_more p x y run moved limit = record {
     seen = moved
         ∙ ap (λ n. (calls n).go (seen_of x.core) p) run.limit
         ∙ ap (λ (s : Seen). (calls r.instructions).go s p) run.seen
@@ -35,9 +34,9 @@ module _ (r : Runs) (ps : List ℕ) where
 
   -- so it has the key of that run
   pub key_more : (p : ℕ) (x y : Replay) (qs : List ℕ) (key : Key) → qs ≡ ps ++ p ∷ [] → IsKeyOf y key → IsRunOf r ps x
-      → seen_of y.core ≡ (calls x.limit).go (seen_of x.core) p → y.core.boot ≡ x.core.boot → y.limit ≡ x.limit → HasKeyOf r qs key
-  key_more p x y qs key way is run moved boot limit =
-      (y, subst (λ (ws : List ℕ). IsRunOf r ws y) (sym way) (call_more p x y run moved boot limit), is)
+      → seen_of y.core ≡ (calls x.limit).go (seen_of x.core) p → y.limit ≡ x.limit → HasKeyOf r qs key
+  key_more p x y qs key way is run moved limit =
+      (y, subst (λ (ws : List ℕ). IsRunOf r ws y) (sym way) (call_more p x y run moved limit), is)
 
 -- one run more
 pub keys_more : (r : Runs) (rs : List (Reached (Vec ℕ))) (x : Reached (Vec ℕ)) → HaveKeys r rs → HasKeyOf r x.state.items x.key → HaveKeys r (rs ++ x ∷ [])

@@ -1,7 +1,6 @@
 -- Runs that are replayed, and what a search of runs is answered: for each run those of one call more.
 use Rattle.std.specs.Prelude.{◌≡◌, ℕ, zero, suc, ◌⊎◌, ◌&&◌, Bool, true, false, if◌then◌else◌, List, [], ◌∷◌, ◌++◌, map, length, option_to_list, Option, Some, None, Result, Ok, Err}
 use Rattle.std.specs.Global.{Vec}
-use Rattle.disk_model.specs.declared.change.NamedFile.{NamedFile}
 use Rattle.kernel_model.specs.World.{Boot}
 use Rattle.order_laws.specs.Moves.{Seen, calls}
 use Rattle.order_laws.specs.Orders.{IsOver}
@@ -66,7 +65,6 @@ HaveTriedKeys r (tries.Each xs) = HaveKeys r xs.items
 -- the second stands where the first does
 pub record IsCopyOf (x y : Replay) : Type 0 where
   pub seen : seen_of y.core ≡ seen_of x.core
-  pub boot : y.core.boot ≡ x.core.boot
   pub limit : y.limit ≡ x.limit
 
 -- ---- what came of a call that was tried
@@ -192,8 +190,7 @@ AreAnswered r (f ∷ fs) next = (own : List (Reached (Vec ℕ))) × (rest : List
     × AreNext r.instructions (seen_in_runs r f.state) f.state.items own × HaveKeys r own × (next ≡ own ++ rest)
     × AreAnswered r fs rest
 
--- So a level was answered. Where no move was left out, each process stands at a call or
--- a trap in each of its states, or has ended.
+-- So a level was answered. Where no move was left out, each process stands at a call or a trap in each of its states, or has ended.
 abbrev pub Expands : Runs → List (Found (Vec ℕ)) → List (Reached (Vec ℕ)) → Bool → Type 0
 Expands r level next is_whole = AreAnswered r level next × (is_whole ≡ true → AllStand (seen_in (seen_in_runs r) level))
 

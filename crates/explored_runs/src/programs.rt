@@ -28,7 +28,7 @@ impl Programs {
     }
 
     /// A core of the programs before any event.
-    pub fn boot(&self, alloc: Global) -> Result<Core, AllocError>
+    pub fn core(&self, alloc: Global) -> Result<Core, AllocError>
         ensures boot { IfOk result (λ core. core.boot ≡ self.now.booted.boot) }
         ensures history { IfOk result (λ core. core.history ≡ []) }
     {

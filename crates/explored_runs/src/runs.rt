@@ -122,34 +122,24 @@ fn as_it_ends(visited: Option<VisitedState>, is_at_sync: bool, next: &Next) -> O
 }
 
 impl Runs<'_> {
-    /// Boots: the run of no calls.
+    /// The run of no calls, on a copy of the core that was booted.
     pub fn begin(&self) -> Result<Replay, Fault>
         ensures { IfOk result (IsRunOf self.now []) }
     {
-        let core = self.programs.boot(self.alloc)?;
+        let core = self.programs.core(self.alloc)?;
         let keeps_windows = self.visits == Visits::Windows;
         let replay = Replay::begin(self.alloc, core, self.instructions, keeps_windows)?;
         Ok(replay)
     }
 
-    /// Makes these calls on a copy of the run of none.
-    pub fn replay_on(&self, start: &Replay, calls: &[u32]) -> Result<Replay, Fault>
-        requires { IsRunOf self.now [] start.now }
-        ensures { IfOk result (IsRunOf self.now calls.now) }
-    {
-        let mut replay = start.try_clone(self.alloc)?;
-        for pid in calls {
-            replay.call(*pid)?;
-        }
-        Ok(replay)
-    }
-
-    /// Boots, and makes these calls.
+    /// Makes these calls on such a copy.
     pub fn replay(&self, calls: &[u32]) -> Result<Replay, Fault>
         ensures { IfOk result (IsRunOf self.now calls.now) }
     {
-        let start = self.begin()?;
-        let replay = self.replay_on(&start, calls)?;
+        let mut replay = self.begin()?;
+        for pid in calls {
+            replay.call(*pid)?;
+        }
         Ok(replay)
     }
 
@@ -168,7 +158,6 @@ impl Runs<'_> {
     fn try_call(&self, replay: &mut Replay, calls: &[u32], pid: u32) -> Result<Tried, Fault>
         ensures tried { IfOk result (IsTried replay.old.limit (seen_of replay.old.core) calls.now pid) }
         ensures idle { IfOk result (λ tried. is_idle tried ≡ true → seen_of replay.new.core ≡ seen_of replay.old.core) }
-        ensures boot { IfOk result (λ tried. is_idle tried ≡ true → replay.new.core.boot ≡ replay.old.core.boot) }
         ensures limit { IfOk result (λ tried. is_idle tried ≡ true → replay.new.limit ≡ replay.old.limit) }
         ensures key { IfOk result (λ tried. IsRunOf self.now calls.now replay.old → HasTriedKey self.now tried) }
     {

@@ -41,7 +41,7 @@ WentOnTo (suc n) old x new y = (h : Holding) × (z : LoanId) × WentOnTo n old x
 abbrev pub EndsAt : {T : Type 0} → Holding → LoanId → Holding → Result T Rejected → Type 0
 EndsAt old y new result = MatchResult result (λ _. GoesOnce old y new None) (ComesBack old y new)
 
--- From loan x on its process was lent again at most 64 times, and then it ended. For each of these loans the gate was held once;
+-- From loan x on its process was lent again at most 64 times, and then no more. For each of these loans the gate was held once;
 -- `held` says of a process that the gate was held so many times, with it.
 abbrev pub RunsOn : {T : Type 0} → Holding → LoanId → (ℕ → ℕ → Type 0) → Holding → Result T Rejected → Type 0
 RunsOn old x held new result = (n : ℕ) × (n ≤ 64) × held x.pid (suc n) × (h : Holding) × (y : LoanId) × WentOnTo n old x h y × EndsAt h y new result

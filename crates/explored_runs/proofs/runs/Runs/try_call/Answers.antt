@@ -11,10 +11,10 @@ pub returns-in_ok-reached_by-in-Made-clause-key : goal.returns-in_ok-reached_by-
 returns-in_ok-reached_by-in-Made-clause-key c = λ run.
     let reached = c.in_ok-reached_by-in-Made.field-0 in
     key_more c.args.self.now c.args.calls.now c.args.pid c.args.replay.now c.call.new.self reached.state.items reached.key c.in_ok-reached_by-in-Made.ensures.calls c.in_ok-reached_by-in-Made.ensures.key run
-    c.in_ok-call.ensures.moved c.in_ok-call.ensures.boot c.in_ok-call.ensures.limit
+    c.in_ok-call.ensures.moved c.in_ok-call.ensures.limit
 
 pub returns-in_ok-reached_by-in-MadePrivately-clause-key : goal.returns-in_ok-reached_by-in-MadePrivately-clause-key
 returns-in_ok-reached_by-in-MadePrivately-clause-key c = λ run.
     let reached = c.in_ok-reached_by-in-MadePrivately.field-0 in
     key_more c.args.self.now c.args.calls.now c.args.pid c.args.replay.now c.call.new.self reached.state.items reached.key c.in_ok-reached_by-in-MadePrivately.ensures.calls c.in_ok-reached_by-in-MadePrivately.ensures.key run
-    c.in_ok-call.ensures.moved c.in_ok-call.ensures.boot c.in_ok-call.ensures.limit
+    c.in_ok-call.ensures.moved c.in_ok-call.ensures.limit

@@ -40,7 +40,7 @@ loop-place-preserved c =
       copy = elim c.match-branch-4.branch [
         | in-Idle w ↦ λ _.
             let idle = ap is_idle w.in-Idle.is in
-            record { seen = c.in_ok-try_call.ensures.idle idle ∙ stands.seen; boot = c.in_ok-try_call.ensures.boot idle ∙ stands.boot; limit = c.in_ok-try_call.ensures.limit idle ∙ stands.limit }
+            record { seen = c.in_ok-try_call.ensures.idle idle ∙ stands.seen; limit = c.in_ok-try_call.ensures.limit idle ∙ stands.limit }
         | in-Made+in_ok-push-in-Made w ↦ λ unused. absurd (false≢true (sym unused ∙ w.is_used-is))
       ];
     }

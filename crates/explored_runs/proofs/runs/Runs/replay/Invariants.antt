@@ -4,7 +4,7 @@ use Rattle.order_laws.specs.Moves.{calls}
 use Rattle.order_laws.specs.Orders.{reached}
 use Rattle.explored_runs.specs.Answering.{boot_in}
 use Rattle.replayed_runs.specs.Replays.{seen_after_calls, seen_of}
-use Rattle.explored_runs.proofs.runs.Runs.replay_on.Given as goal
+use Rattle.explored_runs.proofs.runs.Runs.replay.Given as goal
 
 abbrev pub invariant-loop-pid : goal.invariant-loop-pid
 invariant-loop-pid l = record {
