@@ -22,6 +22,7 @@
 //!   writes that this took each time;
 //! - `lend Q NAME`: a process is lent for a quantum of Q, and the loan run; its result goes by this name, and the line comes
 //!   to its process, or to None where none is lent;
+//! - `again P Q NAME`: the same of process P, whichever was lent last;
 //! - `settle NAME`: the core takes the result back; one that is refused comes to why, and to what is given back of it, the
 //!   process, the number of the loan and how many instructions it ran;
 //! - `loans Q`: loans for a quantum of Q are run and taken back until no process is lent, and the line comes to their number;
@@ -327,15 +328,27 @@ impl Case {
         Ok(())
     }
 
-    /// Lends a process and runs the loan, whose result goes by this name. Gives the process, if one was lent.
-    fn lend(&mut self, quantum: u32, name: &str) -> Result<Option<u32>, Error> {
-        let Some(done) = self.core()?.burst(quantum)? else {
+    /// A result goes by this name from now on. Gives its process, if there is one.
+    fn name_result(&mut self, done: Option<Done>, name: &str) -> Result<Option<u32>, Error> {
+        let Some(done) = done else {
             return Ok(None);
         };
         let pid = done.pid;
         let name = String::from_str(self.alloc, name)?;
         self.results.push((name, done))?;
         Ok(Some(pid))
+    }
+
+    /// Lends a process and runs the loan, whose result goes by this name. Gives the process, if one was lent.
+    fn lend(&mut self, quantum: u32, name: &str) -> Result<Option<u32>, Error> {
+        let done = self.core()?.burst(quantum)?;
+        self.name_result(done, name)
+    }
+
+    /// As `lend`, of this process.
+    fn lend_again(&mut self, pid: u32, quantum: u32, name: &str) -> Result<Option<u32>, Error> {
+        let done = self.core()?.burst_again(pid, quantum)?;
+        self.name_result(done, name)
     }
 
     /// The result of this name, which is gone then.
@@ -403,6 +416,7 @@ impl Case {
             "bytes" => digits(alloc, self.part(first, second)),
             "zeros" => text(alloc, self.is_zero(first, second)),
             "lend" => text_ok(alloc, self.lend(first, word(command, 2))?),
+            "again" => text_ok(alloc, self.lend_again(first, second, word(command, 3))?),
             "settle" => self.settle(word(command, 1)),
             _ => count_or_look(alloc, self.core()?, command),
         }

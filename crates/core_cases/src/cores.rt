@@ -151,6 +151,10 @@ impl TestCore {
         self.core.lend(quantum)
     }
 
+    pub fn lend_again_once(&mut self, pid: u32, quantum: u32) -> Option<Loan> {
+        self.core.lend_again(pid, quantum)
+    }
+
     pub fn settle_once(&mut self, done: Done) -> Result<Answer, Rejected> {
         self.core.settle(done)
     }

@@ -68,6 +68,19 @@ impl TestCore {
         Ok(loan.map(|loan| run_loan(loan)))
     }
 
+    /// Lends this process, where it may be lent, and runs the loan apart from the core.
+    pub fn burst_again(&mut self, pid: u32, quantum: u32) -> Result<Option<Done>, Error> {
+        let before = seen(self);
+        let loan = match self.lend_again_once(pid, quantum) {
+            None => {
+                check_seen(self, before)?;
+                self.lend_again_once(pid, quantum)
+            }
+            loan => loan,
+        };
+        Ok(loan.map(|loan| run_loan(loan)))
+    }
+
     /// Takes a loan's result back.
     pub fn settle(&mut self, done: Done) -> Result<Result<Answer, Rejected>, Error> {
         let before = seen(self);
