@@ -54,7 +54,7 @@ def edges():
         packet(b"}") + packet(b"}}") + packet(b"}}}") + packet(b"}G") + packet(b"m1}\x100000,4") + packet(b"}]}]") + packet(b"*}\x03"),
         packet(b"m1*\x220,4") + packet(b"g*") + packet(b"\xff") + packet(b"m\xff,1") + packet("Z0,1\u00e9,4".encode()) + packet("\u00e9".encode()),
         # A great many at once.
-        *[packets("?") * 200_000, packets("c bc") * 500, packets("s") * 20_000, packets("s bs") * 5000, packets("c") * 1000 + b"\x03" * 1000],
+        *[packets("?") * 200_000, packets("c bc") * 100, packets("s") * 20_000, packets("s bs") * 5000, packets("c") * 1000 + b"\x03" * 1000],
         *[packets("P21=ffffff0000000000 P21=00") * 200, monitor(b"files") * 200, monitor(b"trace") * 1000, monitor(b"calls") * 1000],
         *[packets("Z2,11008,4 z2,11008,4 Z0,10014,4 z0,10014,4") * 5000, packets("c") * 2000 + packets("k") + packets("c") * 2000],
         # Memory: no bytes, all there are, the last ones, numbers that are too large or none.
