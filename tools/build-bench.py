@@ -35,8 +35,9 @@ NOTE = re.compile(r"rt: (note: .*)")
 SILENCE = 60
 # How many lines of a run are shown where it failed.
 SHOWN_LINES = 20
-# What the copy and its proofs take of a disk, and with how much left it counts as full, in bytes.
-ROOM, FULL = 3_000_000_000, 1_000_000_000
+# What the copy with all its proofs takes of a disk, what it takes where the store is, whose files it then shares, and with how much left a
+# disk counts as full, in bytes.
+ROOM, ROOM_AT_STORE, FULL = 6_000_000_000, 3_000_000_000, 1_000_000_000
 BEGINNING = (
     "bench: proving what is not proved yet; from nothing that takes about 50 minutes on four processors, 90 on two, and 5 GB of disk;\n"
     "bench: on a host that others use too it takes up to twice as long\n"
@@ -45,11 +46,11 @@ BEGINNING = (
 
 
 class Failed(Exception):
-    """Why the program could not be built, and the lines of the log that say more."""
+    """Why the program could not be built, the lines of the log that say more, and a line for each disk that is full."""
 
-    def __init__(self, why, log=()):
+    def __init__(self, why, log=(), full=()):
         super().__init__(why)
-        self.log = [*log][-SHOWN_LINES:]
+        self.log, self.full = [*log][-SHOWN_LINES:], full
 
 
 def jobs():
@@ -87,12 +88,18 @@ def what_is_kept():
     return f"NOTHING IS KEPT, since {at} cannot be written"
 
 
+def room_wanted(folder):
+    """Returns how many bytes the copy may take of the disk of this folder."""
+    at = store()
+    return ROOM_AT_STORE if os.path.isdir(at) and os.stat(at).st_dev == os.stat(folder).st_dev else ROOM
+
+
 def test_room():
     """Refuses to begin where the disk of the copy is too small."""
     at = tempfile.gettempdir()
-    free = shutil.disk_usage(at).free
-    if free < ROOM:
-        raise Failed(f"{at} has {free // 1_000_000} MB left, and the proofs want {ROOM // 1_000_000}; TMPDIR may name another folder")
+    free, wanted = shutil.disk_usage(at).free, room_wanted(at)
+    if free < wanted:
+        raise Failed(f"{at} has {free // 1_000_000} MB left, and the proofs want {wanted // 1_000_000}; TMPDIR may name another folder")
 
 
 def full_disks():
@@ -195,8 +202,6 @@ def take(program, start):
 
 def build():
     """Builds the program, while no other run of this script works in the repository."""
-    if not shutil.which("rt"):
-        raise Failed("the toolchain's command rt is not on the path")
     environment = {**os.environ, **jobs()}
     warn_of_the_kit()
     with open(f"{TOP}/crates.txt", encoding="utf-8") as lock:
@@ -209,7 +214,11 @@ def build():
         print(f"{BEGINNING}\nbench: {what_is_kept()}", file=sys.stderr, flush=True)
         start = time.time()
         with tempfile.TemporaryDirectory(prefix="bench-build-") as room:
-            take(Build(room, environment).run(), start)
+            try:
+                take(Build(room, environment).run(), start)
+            except (Failed, OSError) as why:
+                # (a disk that the copy has filled has room again, once it is removed)
+                raise Failed(why, getattr(why, "log", ()), full_disks()) from None
 
 
 def interrupt(*_):
@@ -220,6 +229,8 @@ def interrupt(*_):
 
 
 def main():
+    if not shutil.which("rt"):
+        sys.exit("bench: the program is not built yet, and the toolchain's command rt, which builds it, is not on the path")
     for it in INTERRUPTS:
         if signal.getsignal(it) != signal.SIG_IGN:
             signal.signal(it, interrupt)
@@ -228,9 +239,9 @@ def main():
     except KeyboardInterrupt:
         print(f"bench: interrupted; {what_is_kept()}", file=sys.stderr)
         return 130
-    except (Failed, OSError, shutil.Error) as why:
+    except (Failed, OSError) as why:
         print(*getattr(why, "log", ()), sep="", end="", file=sys.stderr)
-        for line in [f"the program could not be built: {why}", *full_disks(), what_is_kept()]:
+        for line in [f"the program could not be built: {why}", *getattr(why, "full", ()), what_is_kept()]:
             print(f"bench: {line}", file=sys.stderr)
         return 1
     # Python ignores it, and the program would too.
