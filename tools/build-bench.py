@@ -230,7 +230,7 @@ def interrupt(*_):
 
 def main():
     if not shutil.which("rt"):
-        sys.exit("bench: the program is not built yet, and the toolchain's command rt, which builds it, is not on the path")
+        sys.exit("bench: the program has to be built first, and the toolchain's command rt, which builds it, is not on the path")
     for it in INTERRUPTS:
         if signal.getsignal(it) != signal.SIG_IGN:
             signal.signal(it, interrupt)

@@ -35,8 +35,9 @@ OF_EDIT = re.compile(r"rt: must-fail (\w+)/(\S+): (refused|NOT REFUSED|BAD EDIT|
 # A file in the folder that is no edit.
 NO_EDIT = re.compile(rf"rt: crates/(\w+)/{GATE}/\S+: BAD EDIT")
 COLUMNS = ("edits", "refused", "not refused", "bad", "not tried")
-# Of a process's file `stat`, from its third field on: the session, the processor time of the process, its start.
-SESSION, TIMES, START = 3, slice(11, 13), 19
+# Of a process's file `stat`, from its third field on: its parent, the session, the processor time of the process and of those that it
+# forked, its start.
+PARENT, SESSION, TIMES, START = 1, 3, slice(11, 15), 19
 TICK = os.sysconf("SC_CLK_TCK")
 # The seconds between two looks at the checks, and between two lines of progress.
 LOOK, TELL = 0.5, 60
@@ -91,7 +92,9 @@ class Checks(threading.Thread):
         running = set()
         for pid, fields in processes_of(self.session):
             try:
-                if "/rt-edit-" not in os.readlink(f"/proc/{pid}/cwd"):
+                folder = os.readlink(f"/proc/{pid}/cwd")
+                # (what a check forked is no other check)
+                if "/rt-edit-" not in folder or os.readlink(f"/proc/{fields[PARENT]}/cwd") == folder:
                     continue
                 with open(f"/proc/{pid}/cmdline", encoding="utf-8", errors="replace") as file:
                     words = file.read().split("\0")
