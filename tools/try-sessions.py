@@ -47,6 +47,8 @@ class Run:
 
     def __init__(self, words):
         self.words, self.input, self.out, self.status, self.err, self.kept = words, b"", b"", 0, b"", None
+        # How many lines it prints first that only begin alike, and how.
+        self.alike, self.begin = 0, b""
 
     def read(self, mark, text):
         """Reads a line that says more of the run; false where it does not."""
@@ -55,6 +57,9 @@ class Run:
             self.input += unescaped(text) + b"\n" if mark == "<" else packet(text) if mark == "<$" else unescaped(many) * int(times)
         elif mark in (">*", ">="):
             self.out, self.kept = None, text
+        elif mark == ">#":
+            count, _, begin = text.partition(" ")
+            self.alike, self.begin = int(count), begin.encode()
         elif mark in (">", ">>", ">$"):
             self.out += packet(text) if mark == ">$" else text.encode() + (b"\n" if mark == ">" else b"")
         elif mark == "!":
@@ -65,6 +70,11 @@ class Run:
         else:
             return False
         return True
+
+    def after_alike(self, printed):
+        """Returns what was printed after the lines that begin alike; nothing if there are fewer."""
+        lines = printed.split(b"\n", self.alike)
+        return lines[-1] if len(lines) == self.alike + 1 and all(it.startswith(self.begin) for it in lines[:-1]) else None
 
 
 class Place:
@@ -91,7 +101,7 @@ class Place:
         if run.kept:
             with open(self.path(run.kept), "wb") as it:
                 it.write(came.stdout)
-        pairs = (("prints", came.stdout, run.out), ("says", came.stderr, run.err))
+        pairs = (("prints", run.after_alike(came.stdout), run.out), ("says", came.stderr, run.err))
         wrong = [f"{what} {it!r}" for what, it, wanted in pairs if (it != wanted if wanted is not None else not it)]
         return wrong + ([f"ends with {came.returncode}"] if came.returncode != run.status else [])
 

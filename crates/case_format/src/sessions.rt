@@ -4,7 +4,7 @@
 //! - `$ WORDS`: the program is run with these words; lines after it say more of the run:
 //!   - `< TEXT`: a line of its input; `<< N TEXT`: this text N times, without a line's end;
 //!   - `> TEXT`: a line that it prints; `>> TEXT`: a text, without a line's end; `>*`: whatever it prints; `>= NAME`: the same, and that
-//!     is written to the file NAME;
+//!     is written to the file NAME; `># N TEXT`, before these: the first N lines that it prints begin with TEXT;
 //!   - `<$ TEXT` and `>$ TEXT`: a packet of gdb's with this text, on its input, or printed; neither has a line's end;
 //!   - `! STATUS TEXT`: its status, and its line on standard error, with `!! TEXT` for each line after it;
 //!   - `! STATUS`: its status, and something on standard error;
@@ -106,11 +106,56 @@ fn check_written(
     }
 }
 
+/// Lines that begin alike: how many there are, and how each begins.
+struct AlikeLines {
+    count: u32,
+    begin: String,
+}
+
+impl Drop for AlikeLines {
+    fn drop(self) {
+        let AlikeLines {
+            count: _,
+            begin: _begin,
+        } = self;
+    }
+}
+
+impl AlikeLines {
+    /// Reads `N TEXT`.
+    fn read(&mut self, line: &str) -> Result<(), Error> {
+        let (count, begin) = two_parts(line, " ", "no text with which lines begin: ")?;
+        self.count = count.parse::<u32>()?;
+        self.begin.clear();
+        Ok(self.begin.push_str(begin)?)
+    }
+
+    /// The bytes after these lines. Refuses bytes that do not begin with them.
+    fn after<'a>(&self, bytes: &'a [u8]) -> Result<&'a [u8], Error> {
+        let mut rest = bytes;
+        for _ in 0..self.count {
+            rest = match rest.iter().position(|byte| *byte == b'\n') {
+                Some(end) if rest.starts_with(self.begin.as_bytes()) => {
+                    rest.get(end + 1..).unwrap_or(&[])
+                }
+                _ => bail!(
+                    "fewer than {} lines begin with '{}'",
+                    self.count,
+                    self.begin
+                ),
+            };
+        }
+        Ok(rest)
+    }
+}
+
 /// A run of the program, and what is wanted of it.
 pub struct Run {
     words: String,
     input: Vec<u8>,
-    /// What it prints.
+    /// The lines that it prints first. Only their beginnings are wanted.
+    alike: AlikeLines,
+    /// What it prints after these.
     out: String,
     /// Whether any output will do, as long as there is some.
     prints_something: bool,
@@ -128,6 +173,7 @@ impl Drop for Run {
         let Run {
             words: _words,
             input: _input,
+            alike: _alike,
             out: _out,
             prints_something: _,
             kept: _kept,
@@ -143,6 +189,10 @@ impl Run {
         Ok(Run {
             words: String::from_str(alloc, words)?,
             input: Vec::new(alloc),
+            alike: AlikeLines {
+                count: 0,
+                begin: String::new(alloc),
+            },
             out: String::new(alloc),
             prints_something: false,
             kept: String::new(alloc),
@@ -177,6 +227,7 @@ impl Run {
             ">" => push_line(&mut self.out, text),
             ">>" => Ok(self.out.push_str(text)?),
             ">*" | ">=" => self.want_something(text),
+            ">#" => self.alike.read(text),
             "!" => self.want_end(text),
             "!!" => push_line(&mut self.err, text),
             _ => return Ok(false),
@@ -210,7 +261,7 @@ impl Run {
 
     fn check_all(&self, ran: &Ran) -> Result<(), Error> {
         check_written(
-            &ran.out,
+            self.alike.after(&ran.out)?,
             &self.out,
             self.prints_something,
             "nothing was printed",
