@@ -27,7 +27,7 @@ import urllib.parse
 MOST_WORDS = 35
 # The pages whose blocks of text stand in cases or examples.
 SHOWING = (
-    "README.md", *(f"docs/{it}.md" for it in ("ABI", "CALLS", "CRASHES", "DEBUGGER", "EXEC", "IMAGES", "SCRIPTS", "SOURCES", "TEACHING")),
+    "README.md", *(f"docs/{it}.md" for it in ("ABI", "CALLS", "CRASHES", "DEBUGGER", "DISK", "EXEC", "EXPLORE", "IMAGES", "PAGES", "PICTURES", "SCRIPTS", "SOURCES", "TEACHING")),
 )
 CASES = "crates/test_runner/data/*.sessions"
 EXAMPLES = "crates/test_runner/data/examples/*.[sf]*"
@@ -266,7 +266,7 @@ class Crates:
 class Definitions:
     """How many lines the definitions of each crate have, as pages say it."""
 
-    IN_ALL = re.compile(r"(\d[\d,]*)(?: in `crates/\*/specs/\*\.antt`| lines, comments and imports included$)")
+    IN_ALL = re.compile(r"(\d[\d,]*) lines(?: of definitions|, comments and imports included)")
     OF_CRATE = re.compile(r"`(\w+)` ([\d,]*\d)")
     HEAD = "| Section | Lines of each crate |"
 

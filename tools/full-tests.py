@@ -72,6 +72,9 @@ def refusals(what, wanted):
 REFUSED = r"(\d+) runs: \d+ refused, \d+ undisturbed, (\d+) wrong"
 PARTS = {
     "pages": Part("links, sentences and blocks of the pages", "python3 tools/check-pages.py"),
+    "readme": Part(
+        "the commands of README.md in a fresh clone, in order", "python3 tools/try-readme.py", says=r"(\d+) commands, (\d+) failed",
+    ),
     "texts": Part("the texts of bench page, as they stand in the code", "python3 tools/page-texts.py --check"),
     "mutants": Part(
         "the edits of the second tier, over the proofs that are kept", "python3 tools/mutants.py {lanes}", ("the toolchain's command rt",),
