@@ -2,12 +2,12 @@
 ghost use Rattle.std.specs.Prelude.{◌≡◌, true, IfSome};
 ghost use Rattle.disk_model.specs.Storage.{is_quiet};
 
-use crate::crash::{FILLS, Fill, Moment, moment_of};
+use crate::crash::{FILLS, Moment, moment_of};
 use crate::expectations::expectations_of;
 use crate::findings::Findings;
 use crate::outcome::outcome_of;
 use crate::passed_over::PassedOver;
-use faults::Fault;
+use faults::{Fault, Fill};
 use kernel::{Answer, Core, Event, SimDisk};
 use scripts::{Setup, Visitor, process_of};
 use std::alloc::Global;

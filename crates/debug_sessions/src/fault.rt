@@ -1,5 +1,5 @@
 //! Makes the program's `Fault` of the fault of a session with the debugger.
-use faults::{Fault, Refusal, Why};
+use faults::{Fault, Refusal, Sentence, Why};
 use timeline::SessionFault;
 
 /// The program's fault where a session of `debug` or `gdb` ends early.
@@ -9,9 +9,7 @@ pub fn of_session(fault: SessionFault) -> Fault {
         // (the system's reason is not known)
         SessionFault::InputOutput => Fault::new(
             Refusal::InputOutput,
-            Some(Why::Text(
-                "standard input could not be read as text, or standard output not be written",
-            )),
+            Some(Why::Text(Sentence::StreamsFailed)),
         ),
     }
 }

@@ -1,4 +1,5 @@
 //! Searches of all orders that end early.
+use crate::sentence::Sentence;
 use thiserror::Error;
 
 /// An outcome that is not among those that are expected, or a search that left something unexplored.
@@ -25,14 +26,11 @@ impl ExplorationFault {
     }
 
     /// The reason.
-    pub fn why(&self) -> &'static str {
+    pub fn why(&self) -> Sentence {
         match self {
-            ExplorationFault::NotExpected { .. } => "it has no line that is this outcome",
-            ExplorationFault::Cut { .. } =>
-                "more states were found than --most-states, or as many calls lead to them as --most-calls",
-            ExplorationFault::RunsOn { .. } => {
-                "it ran as many instructions as --limit says, and came to no call"
-            }
+            ExplorationFault::NotExpected { .. } => Sentence::OtherOutcome,
+            ExplorationFault::Cut { .. } => Sentence::TooManyStates,
+            ExplorationFault::RunsOn { .. } => { Sentence::RunsOn }
         }
     }
 }

@@ -6,14 +6,18 @@ mod copy_refusal;
 mod expectation;
 mod exploration;
 mod fault;
+mod fill;
 mod reason;
 mod refusal;
+mod sentence;
 mod whole_line;
 
 pub use copy_refusal::CopyRefusal;
 pub use expectation::ExpectationFault;
 pub use exploration::ExplorationFault;
 pub use fault::{Fault, at_path};
+pub use fill::Fill;
 pub use reason::{Reason, Why};
 pub use refusal::{Refusal, Role};
+pub use sentence::Sentence;
 pub use whole_line::write_line;

@@ -1,4 +1,5 @@
 //! `Reason`: which file a fault is about, and why.
+use crate::sentence::Sentence;
 use elf32::LinkFault;
 use journal::DiskFault;
 use std::alloc::{AllocError, Global};
@@ -19,7 +20,7 @@ pub enum Why {
     Line {
         number: usize,
         text: String,
-        wrong: &'static str,
+        wrong: Sentence,
     },
     /// How many bytes come before the one that is no text.
     #[error("it is no text: after {0} bytes comes one that is not UTF-8")]
@@ -32,7 +33,7 @@ pub enum Why {
     #[error("{0}")]
     Linked(LinkFault),
     #[error("{0}")]
-    Text(&'static str),
+    Text(Sentence),
     /// What names its place itself, as a field of a header.
     #[error("{0}")]
     Said(String),
@@ -56,7 +57,7 @@ fn line_text(alloc: Global, line: &str) -> Result<String, AllocError> {
 
 impl Why {
     /// What is wrong with a line. Without memory for its text nothing is known.
-    pub fn line(alloc: Global, number: usize, line: &str, wrong: &'static str) -> Option<Why> {
+    pub fn line(alloc: Global, number: usize, line: &str, wrong: Sentence) -> Option<Why> {
         match line_text(alloc, line) {
             Ok(text) => Some(Why::Line {
                 number,

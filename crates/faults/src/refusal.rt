@@ -3,6 +3,7 @@ use crate::copy_refusal::CopyRefusal;
 use crate::expectation::ExpectationFault;
 use crate::exploration::ExplorationFault;
 use crate::reason::Why;
+use crate::sentence::Sentence;
 use assembler::AsmFault;
 use elf32::{ElfFault, LinkFault};
 use journal::DiskFault;
@@ -100,28 +101,20 @@ impl Refusal {
     /// What is wrong, as far as the refusal itself tells.
     pub fn why(self) -> Option<Why> {
         Some(match self {
-            Refusal::Event { .. } => {
-                Why::Text("since the last boot it has no such event, or that is one of the disk")
-            }
-            Refusal::OwnSource => Why::Text("this path leads to the source itself"),
-            Refusal::OtherImage => { Why::Text("it assembles to another image than the one given") }
+            Refusal::Event { .. } => { Why::Text(Sentence::NoSuchEvent) }
+            Refusal::OwnSource => Why::Text(Sentence::ItsSource),
+            Refusal::OtherImage => { Why::Text(Sentence::OtherImage) }
             Refusal::Linked(fault) => Why::Linked(fault),
-            Refusal::SameFile => Why::Text("this path leads to the executable itself"),
-            Refusal::Log => Why::Text("no line of it says an instruction"),
+            Refusal::SameFile => Why::Text(Sentence::ItsExecutable),
+            Refusal::Log => Why::Text(Sentence::NoInstruction),
             Refusal::Disk { fault, .. } => Why::Disk(fault),
-            Refusal::DiskInUse => {
-                Why::Text("another run has this disk, and ends before the next may begin")
-            }
-            Refusal::DiskFailed => {
-                Why::Text("a write failed, and no change after it is committed")
-            }
-            Refusal::Copy(CopyRefusal::NoFile) => Why::Text("it has no file of this name"),
-            Refusal::Copy(CopyRefusal::TooMany) => Why::Text("it has 32 files"),
-            Refusal::Copy(CopyRefusal::TooLong) => {
-                Why::Text("a file of a disk has at most 16384 bytes, and this file has more")
-            }
+            Refusal::DiskInUse => { Why::Text(Sentence::DiskInUse) }
+            Refusal::DiskFailed => { Why::Text(Sentence::DiskFailed) }
+            Refusal::Copy(CopyRefusal::NoFile) => Why::Text(Sentence::NoFile),
+            Refusal::Copy(CopyRefusal::TooMany) => Why::Text(Sentence::TooManyFiles),
+            Refusal::Copy(CopyRefusal::TooLong) => { Why::Text(Sentence::TooLongFile) }
             Refusal::Expectation(ExpectationFault::NotExpected { .. }) => {
-                Why::Text("it has no list of files that is the one that this crash leaves")
+                Why::Text(Sentence::OtherFiles)
             }
             Refusal::Exploration(fault) => Why::Text(fault.why()),
             _ => return None,

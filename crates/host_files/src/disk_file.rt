@@ -2,7 +2,7 @@
 ghost use Rattle.std.specs.Prelude.{◌≡◌, true, IfOk};
 ghost use Rattle.disk_model.specs.Storage.{is_quiet};
 
-use faults::{Fault, Refusal, Why, at_path};
+use faults::{Fault, Refusal, Sentence, Why, at_path};
 use input_reading::bytes_in;
 use simdisk::{DiskRefusal, SIZE, SimDisk};
 use std::alloc::{AllocError, Global};
@@ -18,7 +18,7 @@ fn disk_fault(alloc: Global, path: &str, count: usize, refusal: DiskRefusal) -> 
         return Fault::from(refusal);
     }
     let why = if count > SIZE {
-        Why::Text("a disk has 2097152 bytes, and this file has more")
+        Why::Text(Sentence::LongDisk)
     } else {
         Why::Length(count)
     };
@@ -87,10 +87,7 @@ pub fn beside_fault(
 
 /// The fault of an empty path, which no file has.
 pub fn no_path() -> Fault {
-    Fault::new(
-        Refusal::InputOutput,
-        Some(Why::Text("an empty path names no file")),
-    )
+    Fault::new(Refusal::InputOutput, Some(Why::Text(Sentence::EmptyPath)))
 }
 
 /// Removes what stands at a path, if anything does. A link is removed, and not what it leads to.

@@ -1,7 +1,7 @@
 //! `image_in`: reads the image in a file of the host. `text_in`: a text.
 use crate::image_reason::image_reason;
 use elf32::ElfFault;
-use faults::{Fault, Refusal, Why, at_path};
+use faults::{Fault, Refusal, Sentence, Why, at_path};
 use input_reading::image_file_in;
 use machine_model::Image;
 use std::alloc::Global;
@@ -14,7 +14,7 @@ const ELF_BEGIN: &[u8] = b"\x7fELF";
 /// Why bytes are no text that are text up to a place.
 fn why_no_text(bytes: &[u8], after: usize) -> Why {
     if bytes.starts_with(ELF_BEGIN) {
-        return Why::Text("it is an ELF file, as an image or an executable, and no text");
+        return Why::Text(Sentence::ElfFile);
     }
     Why::Byte(after)
 }

@@ -1,6 +1,6 @@
 //! `read_trace`: reads a trace, the replies that a debugged program's calls take.
 use elf32::{ElfFault, parse};
-use faults::{Fault, Refusal, Why};
+use faults::{Fault, Refusal, Sentence, Why};
 use input_reading::{bytes_of, hexadecimal};
 use machine_model::Reply;
 use std::alloc::{AllocError, Global};
@@ -51,7 +51,7 @@ fn reply_of(alloc: Global, line: &str) -> Result<Option<Reply>, AllocError> {
 
 /// The fault of a line that is no reply.
 fn line_fault(alloc: Global, number: usize, line: &str) -> Fault {
-    let why = Why::line(alloc, number, line, "is no reply");
+    let why = Why::line(alloc, number, line, Sentence::NoReply);
     Fault::new(Refusal::Trace { line: number }, why)
 }
 

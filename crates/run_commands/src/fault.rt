@@ -1,6 +1,6 @@
 //! Makes the program's `Fault` of the fault of a run.
 use executor::RunFault;
-use faults::{Fault, Refusal, Why};
+use faults::{Fault, Refusal, Sentence, Why};
 
 /// The program's fault where a run by worker threads ends early.
 pub fn of_run(fault: RunFault) -> Fault {
@@ -10,7 +10,7 @@ pub fn of_run(fault: RunFault) -> Fault {
         // (the system's reason is not known)
         RunFault::Output => Fault::new(
             Refusal::InputOutput,
-            Some(Why::Text("standard output could not be written")),
+            Some(Why::Text(Sentence::OutputFailed)),
         ),
     }
 }

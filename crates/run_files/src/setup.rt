@@ -7,7 +7,7 @@ ghost use Rattle.kernel_model.specs.World.{most_programs, tape_count, terminal_c
 use byte_list::Bytes;
 use command_line::{LiveOptions, RunOptions};
 use durable_disk::HostFile;
-use faults::{Fault, Refusal, Role, Why, at_path};
+use faults::{Fault, Refusal, Role, Sentence, Why, at_path};
 use host_files::{DiskLock, disk_or_zeros, image_in, keep, open_durable, test_place, zeros};
 use input_reading::{MOST_TAPE_BYTES, bytes_in};
 use kernel::{Core, Program, SimDisk};
@@ -31,7 +31,7 @@ fn tape_bytes<I: Read>(alloc: Global, input: &mut I) -> io::Result<Vec<u8>> {
 fn tape_of(alloc: Global, path: &str, read: io::Result<Vec<u8>>) -> Result<Bytes, Fault> {
     let bytes = at_path(alloc, path, read)?;
     if bytes.len() > MOST_TAPE_BYTES {
-        let why = Why::Text("a tape has at most 65536 bytes, and this file has more");
+        let why = Why::Text(Sentence::LongTape);
         return Err(Fault::new(Refusal::InputOutput, Some(why)).at(alloc, path));
     }
     Ok(Bytes::new(bytes))

@@ -7,7 +7,7 @@ ghost use Rattle.kernel_model.specs.World.{terminal_count, tape_count};
 use crate::disk_with::disk_with;
 use crate::setup::{ScriptProgram, ScriptTape, Setup, Source, tape_numbered};
 use byte_list::Bytes;
-use faults::{Fault, Refusal, Why};
+use faults::{Fault, Refusal, Sentence, Why};
 use files::FileList;
 use host_files::{image_bytes_in, image_of_bytes, image_of_file};
 use kernel::{BootFault, Core, Program, SimDisk};
@@ -101,7 +101,7 @@ pub fn boot_fault(fault: BootFault) -> Fault {
 pub fn no_program() -> Fault {
     Fault::new(
         Refusal::Script { line: 1 },
-        Some(Why::Text("it sets up no program")),
+        Some(Why::Text(Sentence::NoProgram)),
     )
 }
 

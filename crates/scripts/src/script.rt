@@ -1,7 +1,7 @@
 //! A script, read whole: its set-up lines first, and then its steps.
 use crate::setup::{Setup, SetupLine};
 use crate::steps::{Step, is_step_name, step_of};
-use faults::{Fault, Refusal, Why};
+use faults::{Fault, Refusal, Sentence, Why};
 use std::alloc::{AllocError, Global};
 
 /// Whether a line adds nothing to a script: it is empty, or a comment.
@@ -37,7 +37,7 @@ impl Drop for Script {
 
 /// The fault of a line that has no form, or may not stand where it stands.
 fn line_fault(alloc: Global, line: usize, text: &str) -> Fault {
-    let why = Why::line(alloc, line, text, "has no form, or may not stand there");
+    let why = Why::line(alloc, line, text, Sentence::NoFormThere);
     Fault::new(Refusal::Script { line }, why)
 }
 
