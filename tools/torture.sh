@@ -214,13 +214,18 @@ static int ask(int number, int first, int second, int third, int fourth, int fif
     __asm__ volatile("ecall" : "+r"(a0) : "r"(a1), "r"(a2), "r"(a3), "r"(a4), "r"(a7) : "memory");
     return a0 < 0 ? (errno = -a0, -1) : a0;
 }
-WEAK int open(const char *name, int flags, ...) { return ask(56, -100, (int)name, flags, 0600, 0); }
-WEAK int close(int descriptor) { return ask(57, descriptor, 0, 0, 0, 0); }
+/* picolibc.c takes 1 from each descriptor above 1. */
+WEAK int open(const char *name, int flags, ...)
+{
+    int reply = ask(56, -100, (int)name, flags, 0600, 0);
+    return reply + (reply > 1);
+}
+WEAK int close(int descriptor) { return ask(57, descriptor - 1, 0, 0, 0, 0); }
 WEAK int unlink(const char *name) { return ask(35, -100, (int)name, 0, 0, 0); }
 WEAK off_t lseek(int descriptor, off_t offset, int whence)
 {
     long long place;
-    return ask(62, descriptor, offset >> 31, offset, (int)&place, whence) < 0 ? -1 : place;
+    return ask(62, descriptor - 1, offset >> 31, offset, (int)&place, whence) < 0 ? -1 : place;
 }
 END
 for level in $levels; do

@@ -71,9 +71,11 @@ helpers=$(riscv64-unknown-elf-gcc -march=rv32im -mabi=ilp32 -print-libgcc-file-n
 pico=${PICOLIBC:-/usr/lib/picolibc/riscv64-unknown-elf}
 if [ $libc = yes ]; then
     [ -d "$pico" ] || refuse "Debian's picolibc-riscv64-unknown-elf is not there"
-    before="-isystem $pico/include" library="$here/picolibc.c" after="-L$pico/lib/rv32im/ilp32 -Wl,--start-group -lc $helpers -Wl,--end-group"
+    before="-isystem $pico/include" library="$here/picolibc.c" after="-Wl,--wrap=fdopen -L$pico/lib/rv32im/ilp32 -Wl,--start-group -lc $helpers -Wl,--end-group"
 else
     before=-ffreestanding library="$here/library.c" after=$helpers
+    # clang++ would give main another name there, as to a function of the program's own.
+    case $CC in *clang++*) before=-fno-builtin ;; esac
 fi
 
 linked=$(mktemp)
@@ -97,9 +99,29 @@ $CC -march=rv32im -mabi=ilp32 -mstrict-align -O2 -ftls-model=local-exec -ffuncti
     fi
     exit 1
 }
+# The tool of this name beside objcopy.
+tool() {
+    tool=$1
+    shift
+    "$(echo "${OBJCOPY%% *}" | sed "s/objcopy/$tool/")" "$@"
+}
+sections=$(tool size -A "$linked" | awk '$3 + 0 >= 65536 && $2 > 0')
+pages=$(echo "$sections" | awk '$2 + $3 > end { end = $2 + $3 } END { print int((end - 65536 + 4095) / 4096) }')
+[ "$pages" -le 60 ] || {
+    echo "build.sh: $pages pages of 4,096 bytes are needed, and 60 fit. Bytes of each section, and of the largest objects:"
+    echo "$sections" | awk '{ printf "%9d %s\n", $2, $1 }'
+    tool nm -S --size-sort "$linked" | grep ' [BbDd] ' | tail -n 3 | while read -r _ size _ name; do
+        printf '%9d   %s\n' "0x$size" "$name"
+    done
+    exit 1
+} >&2
 $OBJCOPY -O binary "$linked" "$image"
 [ $debug = no ] || {
-    cat "$linked" >"$image.elf"
-    # The program header at byte 52 names the page of the headers, which is no page of the program: from now on it is of no kind.
-    printf '\000' | dd of="$image.elf" bs=1 seek=52 conv=notrunc 2>/dev/null
+    # The page of the headers is no page of the program: its program header, the first, gets no kind, and its section, the first too,
+    # no flags.
+    for at in 52 $(($(od -An -tu4 -j32 -N4 "$linked") + 48)); do
+        printf '\000' | dd of="$linked" bs=1 seek="$at" conv=notrunc 2>/dev/null
+    done
+    cp "$linked" "$image.elf"
+    chmod +x "$image.elf"
 }

@@ -1,7 +1,8 @@
 /* Lays out an image with the headers that it needs: `objcopy -O binary` then writes exactly these bytes. Text, with
    constants, stands from 0x00010000 on; data, if there is any, from the next page on. The headers stand in the page
    before the text, which no segment names, so that it is a page of the file and none of the program.
-   It serves GNU ld and LLVM's lld. A section that it does not name is refused by --orphan-handling=error, with its name. */
+   It serves GNU ld and LLVM's lld. Of sections that it does not name, those that are written go with the data, all others with the
+   text. build.sh counts the pages. */
 ENTRY(_start)
 /* The segments of the linker's own file, which build.sh -g keeps; there it makes the first one a segment of no kind. */
 PHDRS
@@ -13,6 +14,7 @@ PHDRS
 }
 SECTIONS
 {
+    /DISCARD/ : { *(.comment .riscv.attributes .note* .eh_frame* .rela* .stab*) }
     .headers 0xF000 :
     {
         LONG(0x464C457F) LONG(0x00010101) LONG(0) LONG(0)   /* an ELF file, 32 bits, little-endian */
@@ -30,6 +32,8 @@ SECTIONS
     .text 0x10000 :
     {
         KEEP(*(.text.start)) *(.text .text.*) *(.rodata .rodata.* .srodata .srodata.*)
+        INPUT_SECTION_FLAGS(SHF_EXECINSTR) *(*)
+        INPUT_SECTION_FLAGS(SHF_ALLOC & !SHF_WRITE) *(*)
         text_end = .;
     } :text
     . = ALIGN(0x1000);
@@ -47,7 +51,12 @@ SECTIONS
         KEEP(*(SORT_BY_INIT_PRIORITY(.fini_array.*))) KEEP(*(.fini_array))
         __fini_array_end = .;
     } :data
-    .data : { *(.data .data.* .sdata .sdata.* .got .got.plt) }
+    .data :
+    {
+        *(.data .data.* .sdata .sdata.* .got .got.plt)
+        /* Each name but those that begin as .bss, .sbss, .tbss and COMMON. */
+        INPUT_SECTION_FLAGS(SHF_WRITE & !SHF_TLS) *([!.C]* C[!O]* .[!bst]* .b[!s]* .s[!b]* .t[!b]*)
+    }
     /* Thread-local data stands where it is used, since there is one thread. */
     .tdata : { *(.tdata .tdata.*) } :data :thread
     bytes_end = .;
@@ -61,6 +70,7 @@ SECTIONS
     .shstrtab 0 : { *(.shstrtab) }
     /* What gdb reads. It has no address, and so no place in the image. */
     .debug_aranges 0 : { *(.debug_aranges) }
+    .debug_macro 0 : { *(.debug_macro) }
     .debug_info 0 : { *(.debug_info) }
     .debug_abbrev 0 : { *(.debug_abbrev) }
     .debug_line 0 : { *(.debug_line) }
@@ -73,6 +83,4 @@ SECTIONS
     .debug_loclists 0 : { *(.debug_loclists) }
     .debug_ranges 0 : { *(.debug_ranges) }
     .debug_rnglists 0 : { *(.debug_rnglists) }
-    /DISCARD/ : { *(.comment .riscv.attributes .note* .eh_frame* .debug* .rela* .stab*) }
-    ASSERT(data_end <= 0x10000 + 60 * 0x1000, "more than 60 pages")
 }

@@ -2,6 +2,8 @@
 #include <errno.h>
 #include <fcntl.h>
 #include <stdio.h>
+#include <stdlib.h>
+#include <string.h>
 #include <unistd.h>
 #include "calls.h"
 
@@ -15,7 +17,7 @@
 #define TEXT_OF(number) #number
 #define HEAP_OF(bytes)                                                                                                       \
     ".pushsection .bss.heap, \"aw\", @nobits\n.balign 16\n.globl __heap_start, __heap_end\n__heap_start: .space " TEXT_OF(bytes) \
-    "\n__heap_end:\n.popsection\n"
+    "\n__heap_end:\n.size __heap_start, " TEXT_OF(bytes) "\n.popsection\n"
 __asm__(HEAP_OF(HEAP_BYTES));
 
 /* Bytes that were printed and not yet written. */
@@ -55,8 +57,9 @@ static int get(FILE *stream)
         end = sys_read(0, had, sizeof had);
         place = 0;
         if (end <= 0) {
+            int no_more = end == 0 ? _FDEV_EOF : _FDEV_ERR;
             end = 0;
-            return EOF;
+            return no_more;
         }
     }
     return had[place++];
@@ -90,9 +93,22 @@ __attribute__((noreturn)) void abort(void)
     _exit(134);
 }
 
-/* Files, by which fopen works: where a descriptor is read or written next, and where a file ends that may only be written, as far as
-   the program knows. */
-static int places[16], ends[16];
+/* C's descriptors 0, 1 and 2 are stdin, stdout and stderr, and files begin at 3. The kernel has one terminal, its descriptor 1, for both
+   1 and 2, and its files begin at 2. */
+static int kernels(int descriptor)
+{
+    return descriptor - (descriptor > 1);
+}
+
+/* What is known of each descriptor of the kernel. */
+static struct {
+    int place, end;   /* where its file is read or written next, and where that ends, as far as the program knows */
+    int reader;       /* the descriptor that reads the file, less this one, where both are open; else 0 */
+    int appends;      /* whether each write goes to the end */
+    int maker;        /* the process that made this tmpfile, and its name; else 0 */
+    char name[8];
+    FILE *stream;     /* what fopen made of it */
+} known[16];
 
 static int answer(int reply)
 {
@@ -102,82 +118,149 @@ static int answer(int reply)
     return -1;
 }
 
-static int passed(int descriptor, int reply)
+static int passed(int own, int reply)
 {
     if (reply > 0) {
-        places[descriptor] += reply;
-        if (ends[descriptor] < places[descriptor])
-            ends[descriptor] = places[descriptor];
+        known[own].place += reply;
+        if (known[own].end < known[own].place)
+            known[own].end = known[own].place;
     }
     return answer(reply);
 }
 
 WEAK ssize_t read(int descriptor, void *bytes, size_t n)
 {
-    return passed(descriptor, sys_read(descriptor, bytes, n < MOST_BYTES ? n : MOST_BYTES));
+    int own = kernels(descriptor), reader = known[own & 15].reader;
+    if (reader)
+        sys_seek(own + reader, known[own & 15].place);
+    return passed(own, sys_read(own + reader, bytes, n < MOST_BYTES ? n : MOST_BYTES));
 }
 
 WEAK ssize_t write(int descriptor, const void *bytes, size_t n)
 {
-    return passed(descriptor, sys_write(descriptor, bytes, n < MOST_BYTES ? n : MOST_BYTES));
+    int own = kernels(descriptor);
+    if (own == 1)
+        flush(&out);   /* what was printed before shows before */
+    if (known[own & 15].appends)
+        known[own & 15].place = known[own & 15].end;
+    if (known[own & 15].appends || known[own & 15].reader)
+        sys_seek(own, known[own & 15].place);
+    return passed(own, sys_write(own, bytes, n < MOST_BYTES ? n : MOST_BYTES));
 }
 
 /* Reads up to the end, and answers how many bytes that were. */
-static int rest_of(int descriptor)
+static int rest_of(int own)
 {
     char bytes[256];
     int n, rest = 0;
-    while ((n = sys_read(descriptor, bytes, sizeof bytes)) > 0)
+    while ((n = sys_read(own, bytes, sizeof bytes)) > 0)
         rest += n;
     return n < 0 ? n : rest;
 }
 
 WEAK off_t lseek(int descriptor, off_t offset, int whence)
 {
-    int place = places[descriptor & 15], reply = sys_seek(descriptor, place), rest;   /* a file, or else refused */
+    int own = kernels(descriptor), place = known[own & 15].place, rest;
+    int reader = own + known[own & 15].reader, reply = sys_seek(reader, place);   /* a file, or else refused */
     if (reply < 0)
         return answer(reply);
     if (whence == SEEK_CUR)
         offset += place;
     else if (whence == SEEK_END)
-        offset += (rest = rest_of(descriptor)) < 0 ? ends[descriptor] : place + rest;
-    reply = sys_seek(descriptor, offset);
+        offset += (rest = rest_of(reader)) < 0 ? known[own].end : place + rest;
+    reply = sys_seek(own, offset);
     if (reply < 0)
-        sys_seek(descriptor, place);
+        sys_seek(own, place);
     else
-        places[descriptor] = reply;
+        known[own].place = reply;
     return answer(reply);
 }
 
-/* Opens to read, to write, to write anew, or to write on at the end. */
+/* A descriptor of the kernel reads or writes, so to do both two are opened. */
 WEAK int open(const char *name, int flags, ...)
 {
-    int makes = flags & O_CREAT, anew = makes && flags & O_TRUNC, end = 0, reply;
-    if ((flags & O_ACCMODE) == O_RDONLY) {
-        reply = sys_open(name, READ_FILE);
-    } else if ((flags & O_ACCMODE) == O_RDWR || flags & O_EXCL || (flags & O_TRUNC && !makes)) {
-        reply = -EINVAL;
-    } else {
-        if (!anew && (reply = sys_open(name, READ_FILE)) >= 0) {
-            end = rest_of(reply);
-            sys_close(reply);
+    int mode = flags & O_ACCMODE, makes = flags & O_CREAT, end = 0, reader = 0, own = sys_open(name, READ_FILE), there = own >= 0;
+    if (there && makes && flags & O_EXCL) {
+        sys_close(own);
+        return answer(-EEXIST);
+    }
+    if (mode != O_RDONLY && (there || (own == -ENOENT && makes))) {
+        if (there) {
+            end = flags & O_TRUNC ? 0 : rest_of(own);
+            sys_close(own);
         }
-        reply = sys_open(name, anew ? NEW_FILE : WRITE_FILE);
-        if (reply == -ENOENT && makes)
-            reply = sys_open(name, NEW_FILE);
-        if (reply >= 0 && flags & O_APPEND)
-            sys_seek(reply, end);
+        own = sys_open(name, there && !(flags & O_TRUNC) ? WRITE_FILE : NEW_FILE);
+        if (own >= 0 && mode == O_RDWR && (reader = sys_open(name, READ_FILE)) < 0) {
+            sys_close(own);
+            own = reader;
+        }
     }
-    if (reply >= 0) {
-        places[reply] = flags & O_APPEND ? end : 0;
-        ends[reply] = end;
-    }
-    return answer(reply);
+    if (own < 0)
+        return answer(own);
+    known[own].place = 0;
+    known[own].end = end;
+    known[own].reader = mode == O_RDWR ? reader - own : 0;
+    known[own].appends = flags & O_APPEND;
+    return own + (own > 1);
+}
+
+/* A tmpfile has a name until it is closed: without one nobody could read it. */
+static void forget(int own)
+{
+    if (known[own].maker && known[own].maker == sys_getpid())
+        sys_unlink(known[own].name);
+    known[own].reader = known[own].appends = known[own].maker = 0;
+    known[own].stream = NULL;
 }
 
 WEAK int close(int descriptor)
 {
-    return answer(sys_close(descriptor));
+    int own = kernels(descriptor), reply = descriptor == 2 ? 0 : sys_close(own);   /* 2 goes with 1 */
+    if (descriptor != 2 && reply >= 0) {
+        if (known[own].reader)
+            sys_close(own + known[own].reader);
+        forget(own);
+    }
+    return answer(reply);
+}
+
+WEAK FILE *tmpfile(void)
+{
+    char name[] = "TXXXXXX";
+    int descriptor = mkstemp(name);
+    if (descriptor < 0)
+        return NULL;
+    memcpy(known[kernels(descriptor)].name, name, sizeof name);
+    known[kernels(descriptor)].maker = sys_getpid();
+    return fdopen(descriptor, "w+");
+}
+
+/* By --wrap fopen makes a stream here. What is held back of it is written at exit, as C has it. */
+FILE *__real_fdopen(int descriptor, const char *mode);
+FILE *__wrap_fdopen(int descriptor, const char *mode)
+{
+    FILE *stream = __real_fdopen(descriptor, mode);
+    if (stream)
+        known[kernels(descriptor) & 15].stream = stream;
+    return stream;
+}
+
+__attribute__((destructor(101))) static void end_files(void)
+{
+    int own;
+    for (own = 0; own < 16; own++) {
+        if (known[own].stream)
+            fflush(known[own].stream);
+        forget(own);
+    }
+}
+
+WEAK int pipe(int ends[2])
+{
+    int reply = sys_pipe(ends), i;
+    for (i = 0; i < 2 && reply >= 0; i++)
+        ends[i] += ends[i] > 1;
+    return answer(reply);
 }
 
 WEAK int unlink(const char *name)
