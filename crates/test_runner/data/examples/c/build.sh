@@ -71,7 +71,8 @@ helpers=$(riscv64-unknown-elf-gcc -march=rv32im -mabi=ilp32 -print-libgcc-file-n
 pico=${PICOLIBC:-/usr/lib/picolibc/riscv64-unknown-elf}
 if [ $libc = yes ]; then
     [ -d "$pico" ] || refuse "Debian's picolibc-riscv64-unknown-elf is not there"
-    before="-isystem $pico/include" library="$here/picolibc.c" after="-Wl,--wrap=fdopen -L$pico/lib/rv32im/ilp32 -Wl,--start-group -lc $helpers -Wl,--end-group"
+    before="-isystem $pico/include -Wl,--wrap=fdopen" library="$here/picolibc.c"
+    after="-L$pico/lib/rv32im/ilp32 -Wl,--start-group -lc $helpers -Wl,--end-group"
 else
     before=-ffreestanding library="$here/library.c" after=$helpers
     # clang++ would give main another name there, as to a function of the program's own.
@@ -99,18 +100,17 @@ $CC -march=rv32im -mabi=ilp32 -mstrict-align -O2 -ftls-model=local-exec -ffuncti
     fi
     exit 1
 }
-# The tool of this name beside objcopy.
-tool() {
-    tool=$1
-    shift
-    "$(echo "${OBJCOPY%% *}" | sed "s/objcopy/$tool/")" "$@"
+# The compiler's tool of this name, which is beside objcopy.
+tool_of() {
+    echo "${OBJCOPY%% *}" | sed "s/objcopy/$1/"
 }
-sections=$(tool size -A "$linked" | awk '$3 + 0 >= 65536 && $2 > 0')
+sizes=$($(tool_of size) -A "$linked")
+sections=$(echo "$sizes" | awk '$3 + 0 >= 65536 && $2 > 0')
 pages=$(echo "$sections" | awk '$2 + $3 > end { end = $2 + $3 } END { print int((end - 65536 + 4095) / 4096) }')
 [ "$pages" -le 60 ] || {
     echo "build.sh: $pages pages of 4,096 bytes are needed, and 60 fit. Bytes of each section, and of the largest objects:"
     echo "$sections" | awk '{ printf "%9d %s\n", $2, $1 }'
-    tool nm -S --size-sort "$linked" | grep ' [BbDd] ' | tail -n 3 | while read -r _ size _ name; do
+    $(tool_of nm) -S --size-sort "$linked" | grep ' [BbDd] ' | tail -n 3 | while read -r _ size _ name; do
         printf '%9d   %s\n' "0x$size" "$name"
     done
     exit 1

@@ -4,6 +4,8 @@
 #include <stdio.h>
 #include <stdlib.h>
 #include <string.h>
+#include <sys/time.h>
+#include <sys/times.h>
 #include <unistd.h>
 #include "calls.h"
 
@@ -224,6 +226,7 @@ WEAK int close(int descriptor)
     return answer(reply);
 }
 
+int mkstemp(char *name);   /* which stdlib.h hides by -std=c99 */
 WEAK FILE *tmpfile(void)
 {
     char name[] = "TXXXXXX";
@@ -271,4 +274,30 @@ WEAK int unlink(const char *name)
 WEAK int rename(const char *from, const char *to)
 {
     return answer(sys_rename(from, to));
+}
+
+/* There is no clock: so time and clock answer -1. */
+WEAK int gettimeofday(struct timeval *now, void *zone)
+{
+    (void)now, (void)zone;
+    return answer(-ENOSYS);
+}
+
+WEAK clock_t times(struct tms *now)
+{
+    (void)now;
+    return (clock_t)answer(-ENOSYS);
+}
+
+WEAK pid_t getpid(void)
+{
+    return sys_getpid();
+}
+
+/* A signal that a program raises and does not catch ends it; others are not sent. */
+WEAK int kill(pid_t process, int signal)
+{
+    if (process != sys_getpid())
+        return answer(-ENOSYS);
+    _exit(128 + signal);
 }
