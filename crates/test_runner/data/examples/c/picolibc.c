@@ -55,14 +55,13 @@ static int get(FILE *stream)
     static unsigned char had[MOST_BYTES];
     static int place, end;
     if (place == end) {
+        int n;
         flush(stream);   /* a question shows before its answer is waited for */
-        end = sys_read(0, had, sizeof had);
+        n = sys_read(0, had, sizeof had);
+        if (n <= 0)
+            return n == 0 ? _FDEV_EOF : _FDEV_ERR;
         place = 0;
-        if (end <= 0) {
-            int no_more = end == 0 ? _FDEV_EOF : _FDEV_ERR;
-            end = 0;
-            return no_more;
-        }
+        end = n;
     }
     return had[place++];
 }
