@@ -40,10 +40,13 @@ PACKAGES = {
     "chromium": "chromium",
     "chromium-driver": "chromedriver",
     "python3-selenium": "/usr/lib/python3/dist-packages/selenium/*",
+    "clang": "clang",
     "gcc": "cc",
     "gcc-12-source": f"{os.environ.get('TESTS', '/usr/src/gcc-12')}/*",
     "gcc-riscv64-unknown-elf": os.environ.get("CC", "riscv64-unknown-elf-gcc"),
     "gdb-multiarch": os.environ.get("GDB", "gdb-multiarch"),
+    "lld": "ld.lld",
+    "llvm": "llvm-size",
     "picolibc-riscv64-unknown-elf": f"{os.environ.get('PICOLIBC', '/usr/lib/picolibc/riscv64-unknown-elf')}/*",
     "qemu-user": "qemu-riscv32",
     "the toolchain's command rt": "rt",
@@ -123,6 +126,12 @@ PARTS = {
     "walks": Part(
         "pages of examples and of random scripts, walked in a browser", "env BENCH={bench} tools/try-pages.py --random {count}",
         ("chromium", "chromium-driver", "python3-selenium"), 10, says=r"(\d+) pages, (\d+) faults",
+    ),
+    "builds": Part(
+        "programs in C by each compiler that examples/c/build.sh names", "crates/test_runner/data/c/builds.sh",
+        (
+            "gcc-riscv64-unknown-elf", "picolibc-riscv64-unknown-elf", "clang", "lld", "llvm", "qemu-user", "gdb-multiarch",
+        ),
     ),
     "compilers": Part(
         "GCC's execution tests, beside qemu", "tools/torture.sh --bench {bench} --sample {count} --seed {seed} --jobs {jobs}",
