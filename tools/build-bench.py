@@ -61,10 +61,16 @@ def jobs():
     return {"RT_JOBS": asked}
 
 
+def said_by(*words):
+    """Returns what a command prints; nothing if it is not there."""
+    if not shutil.which(words[0]):
+        return ""
+    return subprocess.run(words, stdin=subprocess.DEVNULL, stdout=subprocess.PIPE, stderr=subprocess.DEVNULL, text=True).stdout.strip()
+
+
 def store():
     """Returns the folder beside the toolchain in which `rt` keeps what is proved, where it keeps anything."""
-    page = subprocess.run(["rt", "doc"], stdin=subprocess.DEVNULL, stdout=subprocess.PIPE, text=True).stdout.strip()
-    return f"{os.path.dirname(os.path.dirname(page))}/{STORE}"
+    return f"{os.path.dirname(os.path.dirname(said_by('rt', 'doc')))}/{STORE}"
 
 
 def keeps():
@@ -185,19 +191,26 @@ def warn_of_the_kit():
     """Says so where bench was not proved with a kit of this logic."""
     with open(f"{TOP}/KIT", encoding="utf-8") as file:
         kits = [it.strip() for it in file if not it.startswith("#")]
-    kit = subprocess.run(["rt", "version"], stdin=subprocess.DEVNULL, stdout=subprocess.PIPE, text=True).stdout.strip()
+    kit = said_by("rt", "version")
     if not any(kit.endswith(it.partition(" ")[2]) for it in kits):
         print(f"bench: the kit here is {kit}; bench was proved with {', '.join(kits)}", file=sys.stderr, flush=True)
 
 
-def take(program, start):
-    """Puts the program where the launcher looks for it, with a file that is as old as the start of its build."""
+def origin():
+    """Returns the commit of the sources, if this is a clone, and the kit, as `./bench --version` says them."""
+    commit = said_by("git", "-C", TOP, "describe", "--always", "--dirty") if os.path.exists(f"{TOP}/.git") else ""
+    return f"{'at commit ' + commit if commit else 'from no commit'}, with {said_by('rt', 'version')}"
+
+
+def take(program, start, made):
+    """Puts the program where the launcher looks for it, with a file that says of what it was made, as old as the start of its build."""
     out = f"{TOP}/crates/{PROGRAM}/out"
     os.makedirs(out, exist_ok=True)
     shutil.copy2(program, f"{out}/{PROGRAM}.new")
     os.replace(f"{out}/{PROGRAM}.new", f"{out}/{PROGRAM}")
-    with open(f"{out}/built", "w", encoding="ascii"):
-        os.utime(f"{out}/built", (start, start))
+    with open(f"{out}/built", "w", encoding="utf-8") as file:
+        print(made, file=file)
+    os.utime(f"{out}/built", (start, start))
 
 
 def build():
@@ -212,10 +225,10 @@ def build():
             fcntl.flock(lock, fcntl.LOCK_EX)
         test_room()
         print(f"{BEGINNING}\nbench: {what_is_kept()}", file=sys.stderr, flush=True)
-        start = time.time()
+        start, made = time.time(), origin()
         with tempfile.TemporaryDirectory(prefix="bench-build-") as room:
             try:
-                take(Build(room, environment).run(), start)
+                take(Build(room, environment).run(), start, made)
             except (Failed, OSError) as why:
                 # (a disk that the copy has filled has room again, once it is removed)
                 raise Failed(why, getattr(why, "log", ()), full_disks()) from None
