@@ -1,10 +1,10 @@
 //! `save`: a failure as two scripts.
 use crash_points::{CrashPoint, play_some};
-use faults::{Fault, at_path};
+use faults::Fault;
+use host_files::write_file;
 use kernel::{Core, Event};
 use recovery_runs::{Failure, RecoveryProgram};
 use scripts::{EventText, Setup, write_setup};
-use std::fs;
 use std::io::Write;
 use std::rt::Files;
 
@@ -88,11 +88,7 @@ fn write<R: Files + AllocGlobal>(
     script: &[u8],
 ) -> Result<(), Fault> {
     let path = format!(in rt.alloc(); "{folder}/{name}")?;
-    at_path(
-        rt.alloc(),
-        path.as_str(),
-        fs::write(rt, path.as_str(), script),
-    )
+    write_file(rt, path.as_str(), script)
 }
 
 /// Writes two scripts into a folder: `run.script`, the run up to the crash, of which the lines are given; and `recovery.script`, which
@@ -105,8 +101,8 @@ pub fn save<R: Files + AllocGlobal>(
     failure: &mut Failure,
     played: &str,
 ) -> Result<(), Fault> {
-    let script = run_script(rt, setup, failure, played)?;
-    write(rt, folder, "run.script", script.as_slice())?;
-    let script = recovery_script(rt, program, failure)?;
-    write(rt, folder, "recovery.script", script.as_slice())
+    let run = run_script(rt, setup, failure, played)?;
+    let recovery = recovery_script(rt, program, failure)?;
+    write(rt, folder, "run.script", run.as_slice())?;
+    write(rt, folder, "recovery.script", recovery.as_slice())
 }

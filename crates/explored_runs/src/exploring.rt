@@ -8,7 +8,8 @@ use crate::run_search::{Heard, Listener, search_runs, search_runs_part};
 use crate::runs::Runs;
 use crate::saved::{script_of, setup_lines};
 use crate::visited::Visits;
-use faults::{Fault, at_path};
+use faults::Fault;
+use host_files::write_file;
 use order_outcomes::{
     Findings, Outcome, PartHead, Summed, Totals, print_outcome, write_end, write_head,
     write_outcome, write_state,
@@ -17,10 +18,9 @@ use progress::{Progress, ProgressCount};
 use scripts::Setup;
 use state_search::{Found, Key, StateDigest};
 use std::alloc::{AllocError, Global};
-use std::io::Write;
+use std::io::{self, Write};
 use std::rt::Files;
 use std::thread::Threads;
-use std::{fs, io};
 
 /// What is wanted of the outcomes.
 #[derive(Clone, Copy)]
@@ -83,8 +83,7 @@ impl<R: Files + AllocGlobal, O: Write, E: Write> Printer<'_, '_, '_, '_, '_, R, 
         let replay = self.runs.replay(calls)?;
         let script = script_of(alloc, self.setup.as_slice(), &replay)?;
         let path = script_path(alloc, folder, number)?;
-        let written = fs::write(self.rt, path.as_str(), script.as_slice());
-        at_path(alloc, path.as_str(), written)
+        write_file(self.rt, path.as_str(), script.as_slice())
     }
 
     /// Prints an outcome that is new.

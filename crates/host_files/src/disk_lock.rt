@@ -1,5 +1,5 @@
 //! The lock by which one run at a time has a disk's file.
-use crate::disk_file::{beside_fault, no_path};
+use crate::output_file::{beside_fault, no_path};
 use faults::{Fault, Refusal};
 use std::alloc::Global;
 use std::fs::{self, File, OpenOptions, TryLockError};

@@ -13,8 +13,9 @@ mod fields;
 mod image_reason;
 mod linked;
 mod list;
+mod output_file;
+mod place;
 mod reading;
-mod same_file;
 mod source;
 mod trace;
 
@@ -25,5 +26,7 @@ pub use disk_lock::DiskLock;
 pub use durable_file::open_durable;
 pub use linked::image_file;
 pub use list::list_file;
+pub use output_file::{OutputFile, write_file};
+pub use place::Place;
 pub use reading::{image_bytes_in, image_in, image_of_bytes, image_of_file, text_in, text_of_file};
 pub use source::{assemble_file, source_text, symbols_file};

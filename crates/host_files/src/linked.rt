@@ -1,11 +1,10 @@
 //! `image_file`: makes an image of an executable that a stock linker wrote (`bench image`).
-use crate::disk_file::write_whole;
-use crate::same_file::is_same_file;
+use crate::output_file::write_file;
+use crate::place::writes_over;
 use elf32::{MOST_LINKED_BYTES, image_of};
 use faults::{Fault, Refusal, at_path};
 use input_reading::bytes_in;
 use machine_model::{Image, Segment};
-use std::fs;
 use std::io::Write;
 use std::rt::Files;
 
@@ -31,14 +30,6 @@ fn print_size<O: Write>(image: &Image, out: &mut O) -> Result<(), Fault> {
     Ok(())
 }
 
-/// Writes an image to a file, whole. A device or a link that stands at the path is written to, and stays.
-fn write_image<R: Files + AllocGlobal>(rt: &R, path: &str, bytes: &[u8]) -> Result<(), Fault> {
-    match fs::symlink_metadata(rt, path) {
-        Ok(there) if !there.is_file() => at_path(rt.alloc(), path, fs::write(rt, path, bytes)),
-        _ => write_whole(rt, path, bytes),
-    }
-}
-
 /// Makes an image of the executable in a file, writes it to another, and prints how many segments and pages it has, and its entry.
 /// Nothing is written where the executable is refused, or where both paths lead to one file, which is SameFile.
 pub fn image_file<R: Files + AllocGlobal, O: Write>(
@@ -53,10 +44,10 @@ pub fn image_file<R: Files + AllocGlobal, O: Write>(
         Ok(program) => program,
         Err(fault) => return Err(Fault::from(fault).at(alloc, linked)),
     };
-    if is_same_file(rt, linked, image)? {
+    if writes_over(rt, image, linked)? {
         return Err(Fault::from(Refusal::SameFile).at(alloc, image));
     }
     let file = elf32::write(alloc, &program)?;
-    write_image(rt, image, &file)?;
+    write_file(rt, image, &file)?;
     print_size(&program, out)
 }

@@ -1,6 +1,7 @@
 //! Assembles a source to a file: an image (`bench asm`), or symbols for gdb (`bench symbols`).
+use crate::output_file::write_file;
+use crate::place::writes_over;
 use crate::reading::no_text;
-use crate::same_file::is_same_file;
 use assembler::{AsmFault, Cause, assemble};
 use debug_info::{SymbolFile, symbol_file};
 use faults::{Fault, Refusal, Why, at_path};
@@ -8,7 +9,6 @@ use input_reading::bytes_in;
 use machine_model::{Image, Segment};
 use source_checks::advice;
 use std::alloc::Global;
-use std::fs;
 use std::io::Write;
 use std::rt::Files;
 
@@ -109,14 +109,10 @@ fn write_assembled<R: Files + AllocGlobal, O: Write>(
     path: &str,
     out: &mut O,
 ) -> Result<(), Fault> {
-    if is_same_file(rt, source, path)? {
+    if writes_over(rt, path, source)? {
         return Err(Fault::from(Refusal::OwnSource).at(rt.alloc(), path));
     }
-    at_path(
-        rt.alloc(),
-        path,
-        fs::write(rt, path, assembled.file.as_slice()),
-    )?;
+    write_file(rt, path, assembled.file.as_slice())?;
     let line = assembled.line.as_str();
     writeln!(out, "{line}")?;
     Ok(())

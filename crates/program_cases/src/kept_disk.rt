@@ -1,5 +1,5 @@
 //! Tests the file in which a run keeps its disk: the files beside it, its rights, links at its path, and the lock by which one run
-//! has it. An image that is written through a link is tested too.
+//! has it. Other files that the program writes are tested too, with links and rights.
 use crate::faulty_output::check_closed;
 use crate::program::Program;
 use crate::running::{ENDS, check_status};
@@ -148,32 +148,89 @@ fn check_session<R: Files<File = File> + AllocGlobal>(
     Ok(fs::remove_file(rt, "kept.new")?)
 }
 
-/// An image is written to what a link leads to, and the link stays.
-fn check_image_link<R: Files<File = File> + AllocGlobal>(
+/// A file is written to what a link at its path leads to, and the link stays. A file in its place keeps its rights. Its path stands
+/// between these words.
+fn check_written<R: Files<File = File> + AllocGlobal>(
     rt: &R,
     program: Program<'_>,
+    words: (&str, &str),
 ) -> Result<(), Error>
     requires { IsAlwaysCallable program.now }
 {
+    let (before, after) = words;
+    let linked = format!(in rt.alloc(); "{before} linked{after}")?;
+    let whole = format!(in rt.alloc(); "{before} whole{after}")?;
     symlink(rt, "made", "linked")?;
-    check_status(rt.alloc(), program, "image linkers/gnu.elf linked", 0)?;
-    check_status(rt.alloc(), program, "image linkers/gnu.elf whole", 0)?;
+    check_status(rt.alloc(), program, linked.as_str(), 0)?;
+    check_status(rt.alloc(), program, whole.as_str(), 0)?;
+    let made = fs::read(rt, "made")?;
+    ensure!(
+        made.as_slice() == fs::read(rt, "whole")?.as_slice(),
+        "{before}: the link leads to another file"
+    );
+    // Nothing is left of a longer file.
+    fs::write(rt, "made", [0u8; 10_000])?;
+    check_status(rt.alloc(), program, linked.as_str(), 0)?;
+    ensure!(
+        made.as_slice() == fs::read(rt, "made")?.as_slice(),
+        "{before}: the second time the link leads to another file"
+    );
     ensure!(
         fs::symlink_metadata(rt, "linked")?.is_symlink(),
-        "the image's path is no link any more"
+        "{before}: the path is no link any more"
     );
-    let (made, whole) = (fs::read(rt, "made")?, fs::read(rt, "whole")?);
-    ensure!(
-        made.as_slice() == whole.as_slice(),
-        "the link leads to another image"
-    );
+    fs::set_permissions(rt, "whole", Permissions::from_mode(0o640))?;
+    check_status(rt.alloc(), program, whole.as_str(), 0)?;
+    let mode = fs::metadata(rt, "whole")?.permissions().mode() & 0o777;
+    ensure!(mode == 0o640, "{before}: the rights 640 became {mode:o}");
     for name in ["linked", "made", "whole"] {
         fs::remove_file(rt, name)?;
     }
     Ok(())
 }
 
-/// All these tests: the file of a kept disk with its links, rights and locks, and an image that is written through a link.
+/// What a run of `exec` would write is as it was where two paths lead to it, by a link to a file that is not there yet, and where the
+/// run's output fails.
+fn check_left<R: Files<File = File> + AllocGlobal>(
+    rt: &R,
+    program: Program<'_>,
+) -> Result<(), Error>
+    requires { IsAlwaysCallable program.now }
+{
+    symlink(rt, "made", "linked")?;
+    check_status(
+        rt.alloc(),
+        program,
+        "exec --record made --log linked ends",
+        125,
+    )?;
+    ensure!(
+        fs::symlink_metadata(rt, "made").is_err(),
+        "a file is made of a run that is refused"
+    );
+    fs::write(rt, "made", "text")?;
+    for words in [
+        "exec --record linked --log there-is-no-such-folder/a ends",
+        "exec --record linked --log made ends",
+    ] {
+        check_status(rt.alloc(), program, words, 125)?;
+    }
+    let end = (125, "bench: standard output could not be written\n");
+    check_closed(rt.alloc(), program, "exec --record made printer.s", end)?;
+    let text = fs::read_to_string(rt, "made")?;
+    ensure!(
+        text.as_str() == "text",
+        "what the run would have written is not as it was"
+    );
+    ensure!(
+        fs::symlink_metadata(rt, "made.new").is_err(),
+        "what the run wrote is still there"
+    );
+    fs::remove_file(rt, "linked")?;
+    Ok(fs::remove_file(rt, "made")?)
+}
+
+/// All these tests: the file of a kept disk with its links, rights and locks, and other files that the program writes.
 pub fn check_kept_disk<R: Files<File = File> + AllocGlobal>(
     rt: &R,
     program: Program<'_>,
@@ -191,7 +248,17 @@ pub fn check_kept_disk<R: Files<File = File> + AllocGlobal>(
     check_lock(rt, program)?;
     check_durable_link(rt, program)?;
     check_session(rt, program)?;
-    check_image_link(rt, program)?;
+    for words in [
+        ("image linkers/gnu.elf", ""),
+        ("asm ends.s", ""),
+        ("symbols ends.s", ""),
+        ("exec --record", " ends"),
+        ("exec --picture", " ends"),
+        ("exec --log", " ends"),
+    ] {
+        check_written(rt, program, words)?;
+    }
+    check_left(rt, program)?;
     for name in ["ends.s", "ends", "kept"] {
         fs::remove_file(rt, name)?;
     }

@@ -1,121 +1,118 @@
-//! The files that `exec` writes. Each is opened before the run begins, so that no long run is lost at its end.
+//! The files that `exec` writes. All are opened before the run begins, so that no long run is lost at its end. Each takes its place once
+//! the run is over, so that a run that is refused or cut short leaves what was there.
 use command_line::ExecOptions;
-use exec_files::{host_fault, refused};
+use exec_files::refused;
 use faults::Fault;
-use std::alloc::{AllocError, Global};
-use std::fs::{self, File};
-use std::os::unix::fs::MetadataExt;
+use host_files::{OutputFile, Place};
+use std::alloc::Global;
 use std::rt::Files;
 
 /// The open files of a run.
+pub struct Outputs<'a, R: Files> {
+    pub record: Option<OutputFile<'a, R>>,
+    pub picture: Option<OutputFile<'a, R>>,
+    pub log: Option<OutputFile<'a, R>>,
+}
+
+impl<R: Files> Drop for Outputs<'_, R> {
+    fn drop(self) {
+        let Outputs {
+            record: _record,
+            picture: _picture,
+            log: _log,
+        } = self;
+    }
+}
+
+/// The files of a run so far. A disk is read, and also written at the end.
 #[derive(Drop)]
-pub struct Outputs {
-    pub record: Option<File>,
-    pub picture: Option<File>,
-    pub log: Option<File>,
+struct Taken {
+    read: Vec<Place>,
+    written: Vec<Place>,
 }
 
-/// The paths of a run's files so far: those that it reads, and then those that it writes.
-#[derive(Drop)]
-struct Taken<'a> {
-    paths: Vec<&'a str>,
-    /// How many are read.
-    read: usize,
-}
-
-/// Whether two paths are the same, or lead to one file.
-fn lead_to_one<R: Files>(rt: &R, one: &str, other: &str) -> bool {
-    if one == other {
-        return true;
-    }
-    match (fs::metadata(rt, one), fs::metadata(rt, other)) {
-        (Ok(one), Ok(other)) => {
-            one.is_file() && one.dev() == other.dev() && one.ino() == other.ino()
+impl Taken {
+    /// Before any output is taken.
+    fn new<R: Files + AllocGlobal>(rt: &R, options: &ExecOptions<'_>) -> Result<Taken, Fault> {
+        let mut taken = Taken {
+            read: Vec::new(rt.alloc()),
+            written: Vec::new(rt.alloc()),
+        };
+        for path in options.run.images.as_slice() {
+            taken.read.push(Place::of(rt, *path)?)?;
         }
-        _ => false,
-    }
-}
-
-/// The paths of the files that a run reads. A disk is one, which is also written at its end.
-fn read_paths<'a>(alloc: Global, options: &ExecOptions<'a>) -> Result<Vec<&'a str>, AllocError> {
-    let mut paths = Vec::new(alloc);
-    for path in options.run.images.as_slice() {
-        paths.push(*path)?;
-    }
-    for path in options.run.tapes.as_slice() {
-        if let Some(path) = *path
-            && path != "-"
-        {
-            paths.push(path)?;
-        }
-    }
-    if let Some(path) = options.run.disk {
-        paths.push(path)?;
-    }
-    Ok(paths)
-}
-
-impl<'a> Taken<'a> {
-    fn new(alloc: Global, options: &ExecOptions<'a>) -> Result<Taken<'a>, AllocError> {
-        let paths = read_paths(alloc, options)?;
-        let read = paths.len();
-        Ok(Taken { paths, read })
-    }
-
-    /// Refuses a path that leads to a file of the run.
-    fn test<R: Files + AllocGlobal>(&self, rt: &R, path: &str) -> Result<(), Fault> {
-        for (place, other) in self.paths.as_slice().iter().enumerate() {
-            if lead_to_one(rt, path, *other) {
-                let why = if place < self.read {
-                    "the run reads this file, and would write over it; name another"
-                } else {
-                    "the run would write two things to this file; name another for one of them"
-                };
-                return Err(refused(rt.alloc(), path, why));
+        for path in options.run.tapes.as_slice() {
+            if let Some(path) = *path
+                && path != "-"
+            {
+                taken.read.push(Place::of(rt, path)?)?;
             }
         }
-        Ok(())
+        if let Some(path) = options.run.disk {
+            let lock = format!(in rt.alloc(); "{path}.lck")?;
+            taken.read.push(Place::of(rt, path)?)?;
+            taken.written.push(Place::of(rt, path)?)?;
+            taken.written.push(Place::of(rt, lock.as_str())?)?;
+        }
+        Ok(taken)
     }
 
-    /// Opens the file of a path anew, if a path is given, and takes the path.
-    fn open<R: Files<File = File> + AllocGlobal>(
-        &mut self,
-        rt: &R,
-        path: Option<&'a str>,
-    ) -> Result<Option<File>, Fault> {
-        let Some(path) = path else {
-            return Ok(None);
-        };
-        self.test(rt, path)?;
-        self.paths.push(path)?;
-        match File::create(rt, path) {
-            Ok(file) => Ok(Some(file)),
-            Err(error) => Err(host_fault(rt.alloc(), path, &error)),
+    /// Why a file is not to be written here, if it is not.
+    fn fault_of(&self, place: &Place) -> Option<&'static str> {
+        if self.read.iter().any(|read| place.writes_over(read)) {
+            return Some("the run reads this file, and would write over it; name another");
         }
+        for other in &self.written {
+            if place.writes_over(other) || other.writes_over(place) {
+                return Some(
+                    "the run would write two things to this file; name another for one of them",
+                );
+            }
+        }
+        None
+    }
+
+    /// Takes the path of an output, if one is given. Refused is one that leads to a file of the run.
+    fn take<R: Files + AllocGlobal>(&mut self, rt: &R, path: Option<&str>) -> Result<(), Fault> {
+        let Some(path) = path else {
+            return Ok(());
+        };
+        let place = Place::of(rt, path)?;
+        if let Some(why) = self.fault_of(&place) {
+            return Err(refused(rt.alloc(), path, why));
+        }
+        Ok(self.written.push(place)?)
     }
 }
 
-impl Outputs {
-    /// No files.
-    pub fn none() -> Outputs {
-        Outputs {
-            record: None,
-            picture: None,
-            log: None,
-        }
+/// Opens the file of a path, if a path is given.
+fn open<'a, R: Files + AllocGlobal>(
+    rt: &'a R,
+    path: Option<&'a str>,
+) -> Result<Option<OutputFile<'a, R>>, Fault> {
+    match path {
+        Some(path) => Ok(Some(OutputFile::open(rt, path)?)),
+        None => Ok(None),
     }
+}
 
-    /// Opens the files that a run is to write, anew. Refused where one leads to a file that the run reads, or to another of them; those
-    /// that were opened before it are empty then.
-    pub fn open<R: Files<File = File> + AllocGlobal>(
-        rt: &R,
-        options: &ExecOptions<'_>,
-    ) -> Result<Outputs, Fault> {
-        let mut taken = Taken::new(rt.alloc(), options)?;
-        Ok(Outputs {
-            record: taken.open(rt, options.record)?,
-            picture: taken.open(rt, options.picture)?,
-            log: taken.open(rt, options.log)?,
-        })
+impl<'a, R: Files + AllocGlobal> Outputs<'a, R> {
+    /// Opens the files that a run is to write. Refused where one leads to a file that the run reads, or to another of them.
+    pub fn open(rt: &'a R, options: &ExecOptions<'a>) -> Result<Outputs<'a, R>, Fault> {
+        let mut taken = Taken::new(rt, options)?;
+        for path in [options.record, options.picture, options.log] {
+            taken.take(rt, path)?;
+        }
+        let outputs = Outputs {
+            record: open(rt, options.record)?,
+            picture: open(rt, options.picture)?,
+            log: open(rt, options.log)?,
+        };
+        for output in [&outputs.record, &outputs.picture, &outputs.log] {
+            if let Some(file) = output {
+                file.empty()?;
+            }
+        }
+        Ok(outputs)
     }
 }

@@ -1,5 +1,4 @@
 //! Runs of programs for people.
-use crate::exec_outputs::Outputs;
 use crate::executables::{copies_of, programs_in};
 use crate::execution::Execution;
 use crate::observing::Watching;
@@ -30,7 +29,6 @@ fn prepare<'a, R: Files<File = File> + AllocGlobal, I: Read>(
         options,
         watching: Watching::new(rt.alloc(), options, family),
         tapes: copies_of(rt.alloc(), tapes.as_slice())?,
-        outputs: Outputs::none(),
     };
     let setup = boot_on(rt, &options.run, programs, tapes)?;
     Ok((execution, setup))

@@ -1,5 +1,5 @@
 //! Runs of programs for people, from a core to the exit status.
-use crate::exec_keeping::write_records;
+use crate::exec_keeping::keep_outputs;
 use crate::exec_outputs::Outputs;
 use crate::fault::of_run;
 use crate::observing::Watching;
@@ -27,7 +27,6 @@ pub struct Execution<'a, R> {
     pub options: &'a ExecOptions<'a>,
     pub watching: Watching,
     pub tapes: Vec<Bytes>,
-    pub outputs: Outputs,
 }
 
 impl<R> Drop for Execution<'_, R> {
@@ -37,7 +36,6 @@ impl<R> Drop for Execution<'_, R> {
             options: _,
             watching: _watching,
             tapes: _tapes,
-            outputs: _outputs,
         } = self;
     }
 }
@@ -53,15 +51,6 @@ fn applied(core: &mut Core, event: Event) -> Result<Answer, Fault> {
 }
 
 impl<R: Files<File = File> + AllocGlobal + Threads + Wait + Sync> Execution<'_, R> {
-    /// Opens the files that the run is to write.
-    fn open_outputs(&mut self) -> Result<(), Fault> {
-        self.outputs = Outputs::open(self.rt, self.options)?;
-        if let Some(file) = self.outputs.log.take() {
-            self.watching.log_to(self.options.logged, file)?;
-        }
-        Ok(())
-    }
-
     /// What came of watching, which writes no file but the log.
     fn of_log(&self, watched: Result<(), Fault>) -> Result<(), Fault> {
         match (watched, self.options.log) {
@@ -117,14 +106,14 @@ impl<R: Files<File = File> + AllocGlobal + Threads + Wait + Sync> Execution<'_, 
         Ok((core, ending))
     }
 
-    /// Writes the script and the picture of the run, where they are asked for.
-    fn write_records(&mut self, core: &Core) -> Result<(), Fault> {
+    /// Keeps the files that the run is to write.
+    fn keep_outputs(&self, outputs: Outputs<'_, R>, core: &Core) -> Result<(), Fault> {
         let recorded = Recorded {
             core,
             family: &self.watching.family,
             tapes: self.tapes.as_slice(),
         };
-        write_records(self.rt, self.options, &mut self.outputs, recorded)
+        keep_outputs(self.rt, outputs, recorded)
     }
 
     /// Writes the run as an object of JSON, if that is asked for, and what has not gone out.
@@ -176,9 +165,12 @@ impl<R: Files<File = File> + AllocGlobal + Threads + Wait + Sync> Execution<'_, 
         out: &mut O,
         err: &mut E,
     ) -> Result<u8, Fault> {
-        self.open_outputs()?;
+        let outputs = Outputs::open(self.rt, self.options)?;
+        if let Some(log) = &outputs.log {
+            self.watching.log_to(self.options.logged, log.try_clone()?)?;
+        }
         let (core, ending) = self.run_whole(booted, out, err)?;
-        let kept = self.write_records(&core);
+        let kept = self.keep_outputs(outputs, &core);
         let status = self.finish((core, ending), out, err)?;
         kept?;
         Ok(status)
