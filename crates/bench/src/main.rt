@@ -3,20 +3,9 @@
 #![tactic(auto)]
 
 use std::process::ExitCode;
-use std::rt::Env;
-use std::{env, io};
-
-/// The arguments, the program's name aside.
-fn arguments<R: Env + AllocGlobal>(rt: &R) -> io::Result<Vec<String>> {
-    let mut words: Vec<String> = env::args(rt)?.collect(rt.alloc())?;
-    if !words.is_empty() {
-        words.remove(0);
-    }
-    Ok(words)
-}
 
 fn main(rt: HostRuntime) -> ExitCode {
-    let status = match arguments(&rt) {
+    let status = match first_commands::arguments(&rt) {
         Ok(words) => monitor::bench(
             &rt,
             &words,
@@ -24,7 +13,7 @@ fn main(rt: HostRuntime) -> ExitCode {
             &mut rt.stdout(),
             &mut rt.stderr(),
         ),
-        Err(error) => monitor::end_without_arguments(&error, &mut rt.stderr()),
+        Err(error) => first_commands::end_without_arguments(&error, &mut rt.stderr()),
     };
     ExitCode::from(status)
 }

@@ -3,7 +3,9 @@
 #![tactic(auto)]
 
 mod page_files;
+mod picture_files;
 mod program;
 
 pub use faults::Fault;
-pub use program::{bench, end_without_arguments};
+pub use first_commands::end_without_arguments;
+pub use program::bench;

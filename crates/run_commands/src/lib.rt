@@ -1,9 +1,8 @@
-//! The commands `run` and `exec`, which run programs, and `disk` and `diff`, which look at what runs leave.
+//! The commands `run` and `exec`, which run programs, and `diff`, which compares logs of theirs.
 //!
 //! Read `run_images` and `execute` first. Only safety is proved of them; what they read and print is tested.
 #![tactic(auto)]
 
-mod disks;
 mod exec_keeping;
 mod exec_outputs;
 mod executables;
@@ -15,7 +14,6 @@ mod observing;
 mod running;
 mod showing;
 
-pub use disks::use_disk;
 pub use executing::{REFUSED, execute};
 pub use logs::{LogPaths, diff_files};
 pub use running::run_images;

@@ -1,11 +1,10 @@
-//! Scripts in files of the host, and the commands `replay` and `picture`. Each script is read whole before anything runs.
+//! Scripts in files of the host, and the command `replay`. Each script is read whole before anything runs.
 //!
 //! Read `script_in` first. Only safety is proved.
 #![tactic(auto)]
 
 use faults::{Fault, Role};
 use host_files::text_in;
-use pictured_runs::picture;
 use scripts::{Script, replay, replay_cone};
 use std::io::{self, Read, Write};
 use std::rt::Files;
@@ -74,15 +73,4 @@ pub fn replay_cone_file<R: Files + AllocGlobal, O: Write>(
 ) -> Result<(), Fault> {
     let script = script_in(rt, path)?;
     of_script(rt, path, replay_cone(rt, script, event, out))
-}
-
-/// Draws the run of the script in a file, and in it the cone of an event, if a number is given.
-pub fn picture_file<R: Files + AllocGlobal, O: Write>(
-    rt: &R,
-    path: &str,
-    cone: Option<u64>,
-    out: &mut O,
-) -> Result<(), Fault> {
-    let script = script_in(rt, path)?;
-    of_script(rt, path, picture(rt, script, cone, out))
 }

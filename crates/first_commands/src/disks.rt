@@ -3,7 +3,7 @@ use command_line::DiskTask;
 use disk_files::{cat_file, files_on, print_differences, put_file};
 use faults::{Fault, write_line};
 use files::FileTable;
-use run_files::list_files;
+use scripts::write_files;
 use std::fs::File;
 use std::io::Write;
 use std::rt::Files;
@@ -51,7 +51,7 @@ pub fn use_disk<R: Files<File = File> + AllocGlobal, O: Write, E: Write>(
     err: &mut E,
 ) -> Result<u8, Fault> {
     match task {
-        DiskTask::List(disk) => list_files(rt, disk, out)?,
+        DiskTask::List(disk) => write_files(files_on(rt, disk)?.list(), out)?,
         DiskTask::Cat { disk, name } => cat_file(rt, disk, name, out)?,
         DiskTask::Put { disk, name, from } => put_file(rt, disk, name, from)?,
         DiskTask::Diff { first, second } => return diff_disks(rt, first, second, out, err),

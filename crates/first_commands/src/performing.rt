@@ -1,0 +1,65 @@
+//! The tasks of the first hour, and `bench_small`, the program that has no others.
+use crate::disks::use_disk;
+use crate::program::{bench_with, usage_status};
+use command_line::{Arguments, Task};
+use faults::Fault;
+use host_files::{assemble_file, check_file, image_file, list_file, symbols_file};
+use script_files::{replay_cone_file, replay_file, replay_input};
+use std::alloc::Global;
+use std::fs::File;
+use std::io::{BufWriter, Read, Write};
+use std::rt::Files;
+
+/// The refusal of a command that only the whole program has.
+fn lacking(alloc: Global, command: &str) -> Result<(), Fault> {
+    let text = format!(in alloc;
+        "the small program has no {command}: ./bench --build proves the whole one"
+    )?;
+    Err(Fault::told(text, usage_status(command)))
+}
+
+/// Does a task of the first hour, and gives the exit status where all went well. Refuses a task that only the whole program has.
+pub fn perform_first<R: Files<File = File> + AllocGlobal, I: Read, O: Write, E: Write>(
+    rt: &R,
+    task: &Task<'_>,
+    input: &mut I,
+    out: &mut O,
+    err: &mut E,
+) -> Result<u8, Fault> {
+    let done = match task {
+        Task::ReplayInput => replay_input(rt, input, out),
+        Task::ReplayFile(path) => replay_file(rt, path, out),
+        Task::ReplayCone { script, event } => replay_cone_file(rt, script, *event, out),
+        Task::Assemble { source, image } => assemble_file(rt, source, image, out),
+        Task::Check(path) => check_file(rt, path, out),
+        Task::Image { linked, image } => image_file(rt, linked, image, out),
+        Task::Symbols { source, symbols } => symbols_file(rt, source, symbols, out),
+        Task::List(path) => list_file(rt, path, out),
+        Task::Disk(task) => return use_disk(rt, *task, out, err),
+        Task::Picture { .. } => lacking(rt.alloc(), "picture"),
+        Task::Page { .. } => lacking(rt.alloc(), "page"),
+        Task::Crashes(_) => lacking(rt.alloc(), "crashes"),
+        Task::Explore(_) => lacking(rt.alloc(), "explore"),
+        Task::Diff { .. } => lacking(rt.alloc(), "diff"),
+        Task::Debug { .. } | Task::DebugLive(_) => lacking(rt.alloc(), "debug"),
+        Task::Gdb(_) => lacking(rt.alloc(), "gdb"),
+        Task::Run(_) => lacking(rt.alloc(), "run"),
+        Task::Exec(_) => lacking(rt.alloc(), "exec"),
+    };
+    done?;
+    Ok(0)
+}
+
+/// The small program: `bench_with` of the tasks of the first hour.
+pub fn bench_small<R: Files<File = File> + AllocGlobal, I: Read, O: Write, E: Write>(
+    rt: &R,
+    words: &[String],
+    input: &mut I,
+    out: &mut O,
+    err: &mut E,
+) -> u8 {
+    let do_task = |asked: &Arguments<'_>, input: &mut I, out: &mut BufWriter<&mut O>, err: &mut E| {
+        perform_first(rt, &asked.task, input, out, err)
+    };
+    bench_with(rt.alloc(), words, input, out, err, do_task)
+}
