@@ -3,17 +3,16 @@
 
     command-pages.py man|bash|zsh
 
-All three are made of what `bench --help` and `bench COMMAND --help` print. These texts stand in help.sessions, whose cases the merge gate
-compares with the program: so no build is needed here. The man page is dated by SOURCE_DATE_EPOCH, if that is set."""
+All three are made of what `bench --help` and `bench COMMAND --help` print, as tools/command_words.py reads it; no build is needed. The man
+page is dated by SOURCE_DATE_EPOCH, if that is set."""
 import os
-import re
 import sys
 import time
-from typing import NamedTuple
 
-TOP = os.path.realpath(f"{os.path.dirname(os.path.realpath(__file__))}/..")
-CASES = f"{TOP}/crates/test_runner/data/help.sessions"
-ROW = re.compile(r"  +(?:-h, +)?(\S+(?: <[^>]*>)?(?:\.\.\.)?)  +(.*)")
+sys.dont_write_bytecode = True
+
+from command_words import TOP, Row, helps
+
 # What each exit status says, in short; docs/SCRIPTS.md has all.
 STATUSES = (
     ("0", "Done."),
@@ -32,69 +31,6 @@ DESCRIPTION = (
     "to a terminal is held back until every change of a file on which it depends is on the disk. A script says event by event what runs.",
     "Without a command, the script on standard input is replayed.",
 )
-
-
-class Row(NamedTuple):
-    """An argument or an option: how it is written, and what it is."""
-
-    form: str
-    about: str
-
-    @property
-    def name(self):
-        return self.form.split(" ")[0]
-
-    @property
-    def value(self):
-        return re.sub(r"^\S+ ?", "", self.form).strip("<>. ")
-
-
-class Help(NamedTuple):
-    """What a help says."""
-
-    about: str
-    usage: list
-    rows: dict
-    example: str
-
-
-def printed():
-    """Returns, by its words, what each case prints."""
-    cases, words = {}, None
-    with open(CASES, encoding="utf-8") as file:
-        for line in file.read().split("\n"):
-            if line.startswith("$ "):
-                words = line[2:]
-                cases[words] = []
-            elif line.startswith(">") and words is not None:
-                cases[words].append(line[1:].removeprefix(" "))
-    return cases
-
-
-def help_of(lines):
-    """Reads a help: its first line, its usage, and the rows of each of its parts."""
-    usage, rows, part, example = [], {}, None, ""
-    for line in lines[1:]:
-        if line.startswith("Usage: "):
-            part, usage = "Usage", [line.removeprefix("Usage: ")]
-        elif line.startswith("Example: "):
-            example = line.removeprefix("Example: ")
-        elif re.fullmatch(r"[A-Z][a-z]+:", line):
-            part = line[:-1]
-            rows[part] = []
-        elif part == "Usage" and line.strip():
-            usage.append(line.strip())
-        elif ROW.fullmatch(line):
-            rows[part].append(Row(*ROW.fullmatch(line).groups()))
-    return Help(lines[0], usage, rows, example)
-
-
-def helps():
-    """Returns the program's help, and by name those of its commands."""
-    cases = printed()
-    program = help_of(cases["--help"])
-    names = [row.name for row in program.rows["Commands"] if row.name != "help"]
-    return program, {name: help_of(cases[f"{name} --help"]) for name in names}
 
 
 def roff(text):
@@ -128,7 +64,7 @@ def man(program, commands):
     for name, it in commands.items():
         lines += man_command(name, it)
     lines += [".SH OPTIONS", "Each command has these too.", *man_rows(program.rows["Options"]), ".SH EXIT STATUS"]
-    lines += man_rows(Row(status, says) for status, says in STATUSES)
+    lines += man_rows(Row("", status, says) for status, says in STATUSES)
     lines += [".SH FILES", "In share/bench stand examples, and what builds programs in C; in share/doc/bench the documents and what was proved.",
               ".SH SEE ALSO", ".BR gdb (1),", ".BR qemu\\-user (1)"]
     return "\n".join(lines) + "\n"

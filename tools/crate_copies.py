@@ -8,6 +8,8 @@ import shutil
 TOP = os.path.realpath(f"{os.path.dirname(os.path.realpath(__file__))}/..")
 # The two tiers of a crate's edits: those that the merge gate tries, and the others. `rt` reads the first of these folders alone.
 GATE, MUTANTS = "must-fail", "mutants"
+# The folders of a crate whose files its proof reads.
+PROVED_FROM = ("src", "specs", "proofs")
 
 
 def lines_of_crates():

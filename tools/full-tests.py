@@ -8,7 +8,7 @@ each time, for about M minutes (5 if M is not given; with 0 it is run once, with
 they take. N processors are used, all of them if N is not given. S begins the random choices: the first line says which it is, so
 that a run can be done again.
 
-BENCH and TEST_RUNNER name the programs. Without BENCH ./bench builds it, so that it is the one of the sources as they stand. Without
+BENCH and TEST_RUNNER name the programs. Without BENCH ./bench --build builds it, so that it is the one of the sources as they stand. Without
 TEST_RUNNER it is the one that the merge gate left in crates/test_runner/out.
 
 At the end stands a table: how many runs a part had and how many failed, its minutes, and the command of its last round, or of the one
@@ -79,6 +79,11 @@ PARTS = {
         "the commands of README.md in a fresh clone, in order", "python3 tools/try-readme.py", says=r"(\d+) commands, (\d+) failed",
     ),
     "texts": Part("the texts of bench page, as they stand in the code", "python3 tools/page-texts.py --check"),
+    "launcher": Part(
+        "random words, by the launcher and by the program", "python3 tools/try-launcher.py --bench {bench} --count {count} --seed {seed}", (), 500,
+        says=r"(\d+) \D+, (\d+) wrong",
+    ),
+    "small": Part("the cases, by the small program if it has the command", "python3 tools/try-launcher.py --bench {bench} --small {small} --count 0"),
     "mutants": Part(
         "the edits of the second tier, over the proofs that are kept", "python3 tools/mutants.py {lanes}", ("the toolchain's command rt",),
         says=r"in all +(\d+) +\d+ +(\d+) +(\d+) +(\d+) ",
@@ -206,13 +211,14 @@ class Tests:
         self.given, self.room, self.built = given, room, None
         bench = os.environ.get("BENCH", f"{TOP}/crates/bench/out/bench")
         test_runner = os.environ.get("TEST_RUNNER", f"{TOP}/crates/test_runner/out/test_runner")
-        self.programs = {"bench": os.path.abspath(bench), "test_runner": os.path.abspath(test_runner)}
+        small = f"{TOP}/crates/bench_small/out/bench_small"
+        self.programs = {"bench": os.path.abspath(bench), "small": small, "test_runner": os.path.abspath(test_runner)}
 
     def is_built(self):
-        """Has ./bench build the program once. Without words it then runs an empty script."""
+        """Has ./bench build the whole program once."""
         if self.built is None:
-            say("./bench builds the program, where it is not that of the sources as they stand")
-            self.built = run("bench", ["./bench"], {})[0] == 0
+            say("./bench --build builds the program, unless it is that of the sources as they stand")
+            self.built = run("bench", ["./bench", "--build"], {})[0] == 0
         return self.built
 
     def lacks(self, name):

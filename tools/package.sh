@@ -3,8 +3,8 @@
 #
 #     package.sh [FOLDER]
 #
-# FOLDER is out/package if it is not given. The program is the one that ./bench proves and builds, which this does first where it is not
-# there yet. PROGRAM names another file in its place, which then is not said to be proved. Two runs at one commit give the same bytes.
+# FOLDER is out/package if it is not given. The program is the whole one, which ./bench --build proves and builds first if it is not there
+# yet. PROGRAM names another file in its place, which then is not said to be proved. Two runs at one commit give the same bytes.
 # It needs Debian's dpkg, binutils, gzip and tar. Both packages have one tree: bin/bench, a script that runs lib/bench/bench from
 # wherever the tree stands; in share/bench examples and what builds programs in C; in share/doc/bench the pages and what was proved; a man
 # page, and completions for bash and zsh.
@@ -31,10 +31,7 @@ else
     case $commit in
         *-dirty) fail "commit first: a package names its commit" ;;
     esac
-    # A script that is refused at once: the program is built where it is not there, or older than its sources.
-    status=0
-    echo refuse | "$top/bench" >/dev/null 2>&1 || status=$?
-    [ $status -eq 2 ] || fail "./bench builds no program: see what ./bench --unproved and ./bench say"
+    "$top/bench" --build || fail "./bench --build builds no program"
     program=$top/crates/bench/out/bench
     proved="Proved and built by $(rt version | head -n 1), at this commit."
 fi

@@ -1,11 +1,10 @@
-#!/usr/bin/env python3
-"""Proves the crates below the program `bench`, builds the program, and becomes it, with the words given.
+"""Proves the crates of a program, and builds it.
 
 `rt ci` proves them, in a copy that has no must-fail edits. That of some kits keeps each crate that it has proved beside the toolchain,
 for this user of this machine. Then the merge gate takes what was proved here, and the other way round, and a run that is interrupted
 loses only the crates that were just being proved. That of others keeps nothing, which is said at the beginning.
 
-BENCH_JOBS says how many processors are used: all of them if it is not set, or fewer where memory is short."""
+BENCH_JOBS says how many processors are used: all of them if it is not set, or fewer if memory is short."""
 import fcntl
 import os
 import queue
@@ -18,12 +17,11 @@ import tempfile
 import threading
 import time
 
-sys.dont_write_bytecode = True
-
-from crate_copies import TOP, copy_crates, crates_below
+from command_words import first_commands
+from crate_copies import TOP, copy_crates
 from lanes import lanes
+from programs import SMALL
 
-PROGRAM = "bench"
 INTERRUPTS = (signal.SIGINT, signal.SIGTERM, signal.SIGHUP)
 PROVED = re.compile(r"rt: (\w+) proved")
 # The folder, beside the toolchain's, in which `rt` keeps what is proved.
@@ -35,14 +33,13 @@ NOTE = re.compile(r"rt: (note: .*)")
 SILENCE = 60
 # How many lines of a run are shown where it failed.
 SHOWN_LINES = 20
-# What the copy with all its proofs takes of a disk, what it takes where the store is, whose files it then shares, and with how much left a
-# disk counts as full, in bytes.
-ROOM, ROOM_AT_STORE, FULL = 6_000_000_000, 3_000_000_000, 1_000_000_000
-BEGINNING = (
-    "bench: proving what is not proved yet; from nothing that takes about 50 minutes on four processors, 90 on two, and 5 GB of disk;\n"
-    "bench: on a host that others use too it takes up to twice as long\n"
-    "bench: ./bench --unproved WORDS.. runs the program without proofs, in one to three minutes"
-)
+# With how much left a disk counts as full, in bytes.
+FULL = 1_000_000_000
+GIGABYTE = 1_000_000_000
+
+
+def tell(what):
+    print(f"bench: {what}", file=sys.stderr, flush=True)
 
 
 class Failed(Exception):
@@ -94,16 +91,17 @@ def what_is_kept():
     return f"NOTHING IS KEPT, since {at} cannot be written"
 
 
-def room_wanted(folder):
-    """Returns how many bytes the copy may take of the disk of this folder."""
+def room_wanted(program, folder):
+    """Returns how many bytes the copy may take of the disk of this folder: half as many if the store, whose files it then shares, is there."""
     at = store()
-    return ROOM_AT_STORE if os.path.isdir(at) and os.stat(at).st_dev == os.stat(folder).st_dev else ROOM
+    is_shared = os.path.isdir(at) and os.stat(at).st_dev == os.stat(folder).st_dev
+    return program.gigabytes * GIGABYTE // (2 if is_shared else 1)
 
 
-def test_room():
-    """Refuses to begin where the disk of the copy is too small."""
+def test_room(program):
+    """Refuses to begin if the disk of the copy is too small."""
     at = tempfile.gettempdir()
-    free, wanted = shutil.disk_usage(at).free, room_wanted(at)
+    free, wanted = shutil.disk_usage(at).free, room_wanted(program, at)
     if free < wanted:
         raise Failed(f"{at} has {free // 1_000_000} MB left, and the proofs want {wanted // 1_000_000}; TMPDIR may name another folder")
 
@@ -138,14 +136,16 @@ def lines_of(run):
 class Build:
     """A run of `rt ci` in a copy, and what it said of the last crate."""
 
-    def __init__(self, room, environment):
-        self.copy, self.temporary, self.names = f"{room}/{PROGRAM}", f"{room}/tmp", crates_below([PROGRAM])
+    def __init__(self, program, room, environment):
+        self.program, self.copy, self.temporary, self.names = program, f"{room}/bench", f"{room}/tmp", program.crates
         self.environment = {**environment, "TMPDIR": self.temporary}
         self.began, self.proved, self.said = time.monotonic(), 0, []
 
+    def minutes(self):
+        return int(time.monotonic() - self.began) // 60
+
     def say(self, what):
-        minutes = int(time.monotonic() - self.began) // 60
-        print(f"bench: {what}; {self.proved} of {len(self.names)} crates are proved, {minutes} minutes gone", file=sys.stderr, flush=True)
+        tell(f"{what}; {self.proved} of {len(self.names)} crates are proved, {self.minutes()} minutes gone")
 
     def hear(self, line):
         """Tells what a line of the run means; a crate that is refused ends the build."""
@@ -158,7 +158,7 @@ class Build:
         if proved:
             self.say(f"proved {proved[1]}")
         elif note:
-            print(f"bench: {note[1]}", file=sys.stderr, flush=True)
+            tell(note[1])
         elif refused:
             raise Failed(f"{refused[1]} is not proved", self.said)
 
@@ -184,7 +184,7 @@ class Build:
             # All that it has started ends with it.
             run.terminate()
             run.wait()
-        return f"{self.copy}/crates/{PROGRAM}/out/{PROGRAM}"
+        return f"{self.copy}/crates/{self.program.crate}/out/{self.program.crate}"
 
 
 def warn_of_the_kit():
@@ -193,7 +193,7 @@ def warn_of_the_kit():
         kits = [it.strip() for it in file if not it.startswith("#")]
     kit = said_by("rt", "version")
     if not any(kit.endswith(it.partition(" ")[2]) for it in kits):
-        print(f"bench: the kit here is {kit}; bench was proved with {', '.join(kits)}", file=sys.stderr, flush=True)
+        tell(f"the kit here is {kit}; bench was proved with {', '.join(kits)}")
 
 
 def origin():
@@ -202,33 +202,36 @@ def origin():
     return f"{'at commit ' + commit if commit else 'from no commit'}, with {said_by('rt', 'version')}"
 
 
-def take(program, start, made):
-    """Puts the program where the launcher looks for it, with a file that says of what it was made, as old as the start of its build."""
-    out = f"{TOP}/crates/{PROGRAM}/out"
-    os.makedirs(out, exist_ok=True)
-    shutil.copy2(program, f"{out}/{PROGRAM}.new")
-    os.replace(f"{out}/{PROGRAM}.new", f"{out}/{PROGRAM}")
-    with open(f"{out}/built", "w", encoding="utf-8") as file:
-        print(made, file=file)
-    os.utime(f"{out}/built", (start, start))
+def begin(program):
+    """Says what is proved, what that takes, and what else there is."""
+    if program is SMALL:
+        tell(f"the small program has {', '.join(first_commands())}; ./bench --build proves the whole one, which has all commands")
+    tell(f"proving {program.called}, {len(program.crates)} crates; from nothing that takes about {program.proofs}, and {program.gigabytes} GB of disk")
+    tell("on a host that others use too it takes up to twice as long")
+    tell(f"./bench --unproved WORDS.. runs without proofs, after a compilation of {program.compilation}")
+    tell(what_is_kept())
 
 
-def build():
-    """Builds the program, while no other run of this script works in the repository."""
+def prove(program):
+    """Builds the program, while no other run of this works in the repository."""
     environment = {**os.environ, **jobs()}
     warn_of_the_kit()
     with open(f"{TOP}/crates.txt", encoding="utf-8") as lock:
         try:
             fcntl.flock(lock, fcntl.LOCK_EX | fcntl.LOCK_NB)
         except BlockingIOError:
-            print("bench: waiting for another build in this folder", file=sys.stderr, flush=True)
+            tell("waiting for another build in this folder")
             fcntl.flock(lock, fcntl.LOCK_EX)
-        test_room()
-        print(f"{BEGINNING}\nbench: {what_is_kept()}", file=sys.stderr, flush=True)
-        start, made = time.time(), origin()
+            if program.is_fresh(True):
+                return
+        test_room(program)
+        begin(program)
+        start = time.time()
         with tempfile.TemporaryDirectory(prefix="bench-build-") as room:
             try:
-                take(Build(room, environment).run(), start, made)
+                run = Build(program, room, environment)
+                program.take(True, run.run(), start)
+                tell(f"{program.called} is proved and built, in {run.minutes()} minutes")
             except (Failed, OSError) as why:
                 # (a disk that the copy has filled has room again, once it is removed)
                 raise Failed(why, getattr(why, "log", ()), full_disks()) from None
@@ -241,27 +244,22 @@ def interrupt(*_):
     raise KeyboardInterrupt
 
 
-def main():
+def build(program):
+    """Proves and builds a program; returns 0, or the exit status at which that ended."""
     if not shutil.which("rt"):
-        sys.exit("bench: the program has to be built first, and the toolchain's command rt, which builds it, is not on the path")
+        tell(f"{program.called} has to be built first, and the toolchain's command rt, which builds it, is not on the path")
+        return 1
     for it in INTERRUPTS:
         if signal.getsignal(it) != signal.SIG_IGN:
             signal.signal(it, interrupt)
     try:
-        build()
+        prove(program)
+        return 0
     except KeyboardInterrupt:
-        print(f"bench: interrupted; {what_is_kept()}", file=sys.stderr)
+        tell(f"interrupted; {what_is_kept()}")
         return 130
     except (Failed, OSError) as why:
         print(*getattr(why, "log", ()), sep="", end="", file=sys.stderr)
-        for line in [f"the program could not be built: {why}", *getattr(why, "full", ()), what_is_kept()]:
-            print(f"bench: {line}", file=sys.stderr)
+        for line in [f"{program.called} could not be built: {why}", *getattr(why, "full", ()), what_is_kept()]:
+            tell(line)
         return 1
-    # Python ignores it, and the program would too.
-    signal.signal(signal.SIGPIPE, signal.SIG_DFL)
-    program = f"{TOP}/crates/{PROGRAM}/out/{PROGRAM}"
-    os.execv(program, [program, *sys.argv[1:]])
-
-
-if __name__ == "__main__":
-    sys.exit(main())

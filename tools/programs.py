@@ -1,0 +1,74 @@
+"""The two programs of bench: the crate of each, what it takes to build it, and what of it is built.
+
+A program stands in the folder `out` of its crate: proved under the crate's name, and compiled without proofs as `unproved`. Beside it a
+file as old as the start of its build has the lines of crates.txt that it was built by. It is fresh as long as these lines are the same
+and no file that its crates are proved from is newer; so an edit in a crate that only the whole program uses leaves the small one fresh."""
+import os
+import shutil
+from typing import NamedTuple
+
+from crate_copies import PROVED_FROM, TOP, crates_below, lines_of_crates
+
+
+class Program(NamedTuple):
+    """A program: its crate, what it is called, how long its proofs and its compilation take, and what the proofs take of a disk."""
+
+    crate: str
+    called: str
+    proofs: str
+    compilation: str
+    gigabytes: int
+
+    @property
+    def crates(self):
+        return crates_below([self.crate])
+
+    def lines(self):
+        """Returns the lines of crates.txt that the program is built by."""
+        lines = lines_of_crates()[0]
+        return "".join(f"{' '.join(lines[it].partition('#')[0].split())}\n" for it in sorted(self.crates))
+
+    def file(self, is_proved):
+        return f"{TOP}/crates/{self.crate}/out/{self.crate if is_proved else 'unproved'}"
+
+    def is_fresh(self, is_proved):
+        """Returns whether the program is built, and as its sources are."""
+        file = self.file(is_proved)
+        try:
+            with open(f"{file}.built", encoding="utf-8") as built:
+                start, lines = os.fstat(built.fileno()).st_mtime_ns, built.read()
+        except OSError:
+            return False
+        return os.access(file, os.X_OK) and lines == self.lines() and not any(is_newer(crate, start) for crate in self.crates)
+
+    def take(self, is_proved, made, start):
+        """Puts what a build made where the launcher looks for it. `start` is when the build began, so that what was edited since is newer."""
+        file = self.file(is_proved)
+        os.makedirs(os.path.dirname(file), exist_ok=True)
+        shutil.copyfile(made, f"{file}.new")
+        os.chmod(f"{file}.new", 0o755)
+        os.replace(f"{file}.new", file)
+        with open(f"{file}.built", "w", encoding="utf-8") as built:
+            built.write(self.lines())
+        os.utime(f"{file}.built", (start, start))
+
+
+def is_newer(crate, start):
+    """Returns whether a file or a folder that a crate is proved from is newer than this."""
+    folders = [f"{TOP}/crates/{crate}/{part}" for part in PROVED_FROM]
+    folders = [it for it in folders if os.path.isdir(it)]
+    while folders:
+        folder = folders.pop()
+        if os.stat(folder).st_mtime_ns > start:
+            return True
+        with os.scandir(folder) as found:
+            for it in found:
+                if it.is_dir():
+                    folders.append(it.path)
+                elif it.stat().st_mtime_ns > start:
+                    return True
+    return False
+
+
+WHOLE = Program("bench", "the whole program", "50 minutes on four processors, 90 on two", "four to six minutes", 6)
+SMALL = Program("bench_small", "the small program", "25 minutes on four processors, 35 on two", "one to two minutes", 3)
