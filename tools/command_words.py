@@ -206,7 +206,7 @@ class Level:
         self.files.append(word)
 
     def read(self, words):
-        """Reads the words of a command; returns help, if they ask for it."""
+        """Reads the words of a command; returns this level, or help, if they ask for it."""
         is_ended = False
         while words:
             if is_ended or words[0] == "-" or not words[0].startswith("-"):
@@ -219,11 +219,11 @@ class Level:
         if missing:
             lines = "".join(f"\n  {it}" for it in missing)
             raise Refused(f"the following required arguments were not provided:{lines}", self.usage(self.given, True))
-        return None
+        return self
 
 
 def read_words(words):
-    """Reads the words of a command line: returns help if they ask for it, and None if they ask for a task."""
+    """Reads the words of a command line: returns help if they ask for it, and the level of their command if they ask for a task."""
     program, commands = helps()
     level = Level("", program, commands)
     while words and words[0].startswith("-") and words[0] != "-":
@@ -253,11 +253,26 @@ def command_in(words):
     return next((it for it in words if not it.startswith("-")), "")
 
 
-def answer(words):
-    """Returns what bench says without doing anything: help, or that the words ask for nothing. None if only the program can tell."""
+def read(words):
+    """Returns what bench says without doing anything: help, or that the words ask for nothing; or the level of the command that they ask
+    for. None if only the program can tell."""
     try:
         return read_words(list(words)) if words else None
     except Refused as why:
         return Said(str(why), OF_EXEC if command_in(words) == "exec" else REFUSED)
     except Unknown:
         return None
+
+
+def answer(words):
+    """Returns what bench says without doing anything, or None."""
+    said = read(words)
+    return said if isinstance(said, Said) else None
+
+
+def missing_file(words):
+    """Returns the first file that a command reads, if it is not there. The words of `disk` have no fixed places."""
+    level = read(words)
+    if not isinstance(level, Level) or level.name == "disk" or level.files[0] == "-" or os.path.exists(level.files[0]):
+        return None
+    return level.files[0]

@@ -22,17 +22,16 @@ def tell(what):
     print(f"bench: {what}", file=sys.stderr, flush=True)
 
 
-def running(room):
-    """Returns the file of the program that runs in this folder, if one does."""
+def running(words):
+    """Returns the file of the program that runs with these words, if one does. Before it stand the words of the loader that runs it."""
     for number in filter(str.isdigit, os.listdir("/proc")):
         try:
             with open(f"/proc/{number}/cmdline", encoding="utf-8", errors="surrogateescape") as it:
-                words = it.read().split("\0")
+                found = it.read().split("\0")[:-1]
         except OSError:
             continue
-        for word in words[:8]:
-            if word.startswith(f"{room}/tmp/") and os.path.basename(word) == "program":
-                return word
+        if found[-len(words) :] == words and "--" not in found:
+            return found[-len(words) - 1]
     return None
 
 
@@ -40,15 +39,16 @@ def compiled(program, room):
     """Returns the file of the program as `rt try` compiles it; `room` has a pipe that it waits for."""
     os.mkfifo(f"{room}/wait")
     os.mkdir(f"{room}/tmp")
+    words = ["replay", f"{room}/wait"]
     run = subprocess.Popen(
-        ["rt", "try", "--seconds", str(LONGEST), "--", "replay", f"{room}/wait"], cwd=f"{TOP}/crates/{program.crate}",
+        ["rt", "try", "--seconds", str(LONGEST), "--", *words], cwd=f"{TOP}/crates/{program.crate}",
         env={**os.environ, "TMPDIR": f"{room}/tmp"}, stdin=subprocess.DEVNULL, stdout=subprocess.PIPE, stderr=subprocess.STDOUT, text=True,
         errors="replace", start_new_session=True,
     )
     began = said = time.monotonic()
     try:
         while run.poll() is None:
-            if found := running(room):
+            if found := running(words):
                 shutil.copyfile(found, f"{room}/program")
                 return f"{room}/program"
             time.sleep(LOOKS)
