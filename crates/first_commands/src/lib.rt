@@ -1,6 +1,6 @@
 //! The commands of the first hour, which the small program and the whole one have, and what both do with a command line.
 //!
-//! Read `bench_with` first. Only safety is proved; what the programs read and print is tested.
+//! Read `bench_small` first. Only safety is proved; what the programs read and print is tested.
 #![tactic(auto)]
 
 mod disks;
@@ -8,4 +8,4 @@ mod performing;
 mod program;
 
 pub use performing::{bench_small, perform_first};
-pub use program::{arguments, bench_with, end_without_arguments};
+pub use program::{arguments, asked_by, end, end_task, end_without_arguments};

@@ -1,7 +1,7 @@
 //! The tasks of the first hour, and `bench_small`, the program that has no others.
 use crate::disks::use_disk;
-use crate::program::{bench_with, usage_status};
-use command_line::{Arguments, Task};
+use crate::program::{asked_by, end, end_task, usage_status};
+use command_line::Task;
 use faults::Fault;
 use host_files::{assemble_file, check_file, image_file, list_file, symbols_file};
 use script_files::{replay_cone_file, replay_file, replay_input};
@@ -50,7 +50,24 @@ pub fn perform_first<R: Files<File = File> + AllocGlobal, I: Read, O: Write, E: 
     Ok(0)
 }
 
-/// The small program: `bench_with` of the tasks of the first hour.
+/// Does what the words ask for, or writes why they ask for nothing. Gives the exit status.
+fn obey<R: Files<File = File> + AllocGlobal, I: Read, O: Write, E: Write>(
+    rt: &R,
+    words: &[String],
+    input: &mut I,
+    out: &mut O,
+    err: &mut E,
+) -> u8 {
+    let asked = match asked_by(rt.alloc(), words, out, err) {
+        Ok(asked) => asked,
+        Err(status) => return status,
+    };
+    let done = perform_first(rt, &asked.task, input, out, err);
+    end_task(&asked, done, out, err)
+}
+
+/// The small program: does what the words ask for, the program's name aside, and gives the exit status. It is the whole program without
+/// the commands that are refused here.
 pub fn bench_small<R: Files<File = File> + AllocGlobal, I: Read, O: Write, E: Write>(
     rt: &R,
     words: &[String],
@@ -58,8 +75,13 @@ pub fn bench_small<R: Files<File = File> + AllocGlobal, I: Read, O: Write, E: Wr
     out: &mut O,
     err: &mut E,
 ) -> u8 {
-    let do_task = |asked: &Arguments<'_>, input: &mut I, out: &mut BufWriter<&mut O>, err: &mut E| {
-        perform_first(rt, &asked.task, input, out, err)
-    };
-    bench_with(rt.alloc(), words, input, out, err, do_task)
+    match BufWriter::new(rt.alloc(), out) {
+        Ok(mut out) => {
+            let status = obey(rt, words, input, &mut out, err);
+            // What could not go out is not tried again after the line that says so.
+            let _ = out.into_parts();
+            status
+        }
+        Err(error) => end(Fault::from(error), err),
+    }
 }

@@ -1,10 +1,11 @@
-//! `bench_with`: reads the command line, has its task done, and gives the exit status, whatever the tasks.
+//! What a program does before its task and after it, whatever its tasks: `asked_by` reads the command line, and `end_task` gives the exit
+//! status.
 use clap::Error;
 use clap::error::ErrorKind;
 use command_line::{Arguments, Task, parse};
 use faults::{Fault, write_line};
 use std::alloc::Global;
-use std::io::{BufWriter, Write};
+use std::io::Write;
 use std::rt::Env;
 use std::{env, io};
 
@@ -49,7 +50,8 @@ fn end_asked<E: Write>(fault: &Fault, explain: bool, err: &mut E) -> u8 {
     fault.status()
 }
 
-fn end<E: Write>(fault: Fault, err: &mut E) -> u8 {
+/// The end by a fault that no task has: writes its line, and gives its status.
+pub fn end<E: Write>(fault: Fault, err: &mut E) -> u8 {
     end_asked(&fault, false, err)
 }
 
@@ -98,46 +100,29 @@ fn flushed<O: Write>(
     Ok(status)
 }
 
-/// Does what the words ask for, or writes why they ask for nothing. Gives the exit status.
-fn obey<I, O: Write, E: Write, F: Fn(&Arguments<'_>, &mut I, &mut O, &mut E) -> Result<u8, Fault>>(
+/// What the words ask for. Words that ask for nothing, or for help, have their answer here, and their exit status is the error.
+pub fn asked_by<'a, O: Write, E: Write>(
     alloc: Global,
-    words: &[String],
-    input: &mut I,
+    words: &'a [String],
     out: &mut O,
     err: &mut E,
-    do_task: F,
-) -> u8
-    requires { F.IsAlwaysCallable do_task }
-{
-    let asked = match parse(alloc, words) {
-        Ok(asked) => asked,
-        Err(error) => return end_usage(words, &error, out, err),
-    };
-    let done = do_task(&asked, input, out, err);
-    match flushed(&asked, done, out) {
-        Ok(status) => status,
-        Err(fault) => end_asked(&fault, asked.explain, err),
+) -> Result<Arguments<'a>, u8> {
+    match parse(alloc, words) {
+        Ok(asked) => Ok(asked),
+        Err(error) => Err(end_usage(words, &error, out, err)),
     }
 }
 
-/// The program whose tasks `do_task` does: does what the words ask for, the program's name aside, and gives the exit status. Without
-/// words it replays the script on the input. What it prints goes to `out` through a buffer. The buffer is flushed before anything is
-/// written to `err`, and before the status is given. One line on `err` says why the program ended early.
-pub fn bench_with<
-    I,
-    O: Write,
-    E: Write,
-    F: Fn(&Arguments<'_>, &mut I, &mut BufWriter<&mut O>, &mut E) -> Result<u8, Fault>,
->(alloc: Global, words: &[String], input: &mut I, out: &mut O, err: &mut E, do_task: F) -> u8
-    requires { F.IsAlwaysCallable do_task }
-{
-    match BufWriter::new(alloc, out) {
-        Ok(mut out) => {
-            let status = obey(alloc, words, input, &mut out, err, do_task);
-            // What could not go out is not tried again after the line that says so.
-            let _ = out.into_parts();
-            status
-        }
-        Err(error) => end(Fault::from(error), err),
+/// The end of a task: flushes what it printed, before anything is written to `err`. Where it ended early, one line says why. Gives the
+/// exit status.
+pub fn end_task<O: Write, E: Write>(
+    asked: &Arguments<'_>,
+    done: Result<u8, Fault>,
+    out: &mut O,
+    err: &mut E,
+) -> u8 {
+    match flushed(asked, done, out) {
+        Ok(status) => status,
+        Err(fault) => end_asked(&fault, asked.explain, err),
     }
 }

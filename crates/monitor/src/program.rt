@@ -4,7 +4,7 @@ use crate::picture_files::picture_file;
 use command_line::{Arguments, Task};
 use debug_sessions::{answer_gdb, debug_file, debug_live};
 use faults::Fault;
-use first_commands::{bench_with, perform_first};
+use first_commands::{asked_by, end, end_task, perform_first};
 use run_commands::{LogPaths, diff_files, execute, run_images};
 use search_commands::{explore_programs, try_crashes};
 use std::fs::File;
@@ -56,15 +56,37 @@ fn perform<
     Ok(0)
 }
 
-/// The whole program: `bench_with` of all tasks.
+/// Does what the words ask for, or writes why they ask for nothing. Gives the exit status.
+fn obey<
+    R: Files<File = File> + AllocGlobal + Threads + Wait + Sync,
+    I: Read + Send,
+    O: Write,
+    E: Write,
+>(rt: &R, words: &[String], input: &mut I, out: &mut O, err: &mut E) -> u8 {
+    let asked = match asked_by(rt.alloc(), words, out, err) {
+        Ok(asked) => asked,
+        Err(status) => return status,
+    };
+    let done = perform(rt, &asked, input, out, err);
+    end_task(&asked, done, out, err)
+}
+
+/// The whole program: does what the words ask for, the program's name aside, and gives the exit status. Without words it replays
+/// the script on the input. What it prints goes to `out` through a buffer. The buffer is flushed before anything is written to
+/// `err`, and before the status is given. One line on `err` says why the program ended early.
 pub fn bench<
     R: Files<File = File> + AllocGlobal + Threads + Wait + Sync,
     I: Read + Send,
     O: Write,
     E: Write,
 >(rt: &R, words: &[String], input: &mut I, out: &mut O, err: &mut E) -> u8 {
-    let do_task = |asked: &Arguments<'_>, input: &mut I, out: &mut BufWriter<&mut O>, err: &mut E| {
-        perform(rt, asked, input, out, err)
-    };
-    bench_with(rt.alloc(), words, input, out, err, do_task)
+    match BufWriter::new(rt.alloc(), out) {
+        Ok(mut out) => {
+            let status = obey(rt, words, input, &mut out, err);
+            // What could not go out is not tried again after the line that says so.
+            let _ = out.into_parts();
+            status
+        }
+        Err(error) => end(Fault::from(error), err),
+    }
 }
