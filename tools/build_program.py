@@ -92,7 +92,7 @@ def what_is_kept():
 
 
 def room_wanted(program, folder):
-    """Returns how many bytes the copy may take of the disk of this folder: half as many if the store, whose files it then shares, is there."""
+    """Returns how many bytes the copy may take of the disk of this folder: half as many if the store is there, whose files it shares."""
     at = store()
     is_shared = os.path.isdir(at) and os.stat(at).st_dev == os.stat(folder).st_dev
     return program.gigabytes * GIGABYTE // (2 if is_shared else 1)
@@ -206,7 +206,8 @@ def begin(program):
     """Says what is proved, what that takes, and what else there is."""
     if program is SMALL:
         tell(f"the small program has {', '.join(first_commands())}; ./bench --build proves the whole one, which has all commands")
-    tell(f"proving {program.called}, {len(program.crates)} crates; from nothing that takes about {program.proofs}, and {program.gigabytes} GB of disk")
+    takes = f"from nothing that takes about {program.proofs}, and {program.gigabytes} GB of disk"
+    tell(f"proving {program.called}, {len(program.crates)} crates; {takes}")
     tell("on a host that others use too it takes up to twice as long")
     tell(f"./bench --unproved WORDS.. runs without proofs, after a compilation of {program.compilation}")
     tell(what_is_kept())

@@ -59,6 +59,10 @@ class Help(NamedTuple):
     def places(self):
         return self.rows.get("Arguments", [])
 
+    def alike(self, option):
+        """Returns the options that are like one that there is not, the likest one last."""
+        return [f"--{it}" for it in alike(option[2:], [name[2:] for name in self.options])]
+
 
 def help_of(lines):
     """Reads a help: its first line, its usage, and the rows of each of its parts."""
@@ -152,13 +156,14 @@ class Level:
     def unknown(self, option, rest=None):
         """Refuses an option that there is not, with the one that may be meant; those of the commands among the rest, too."""
         message, used = f"unexpected argument '{option}' found", list(self.given)
-        names = [] if rest is None else alike(option[2:], [it[2:] for it in self.help.options])
-        of_command = next((f"{it} --{found[-1]}" for it in rest or () if it in self.others and (found := alike(option[2:], [name[2:] for name in self.others[it].options]))), None)
+        names = [] if rest is None else self.help.alike(option)
+        of_commands = [(it, self.others[it].alike(option)) for it in rest or () if it in self.others]
+        of_commands = [f"{it} {found[-1]}" for it, found in of_commands if found]
         if names:
-            message += f"\n\n  tip: a similar argument exists: '--{names[-1]}'"
-            used.append(self.help.options[f"--{names[-1]}"].form)
-        elif of_command:
-            message += f"\n\n  tip: '{of_command}' exists"
+            message += f"\n\n  tip: a similar argument exists: '{names[-1]}'"
+            used.append(self.help.options[names[-1]].form)
+        elif of_commands:
+            message += f"\n\n  tip: '{of_commands[0]}' exists"
         elif self.help.places:
             message += f"\n\n  tip: to pass '{option}' as a value, use '-- {option}'"
         raise Refused(message, self.usage(*((used, bool(self.files)) if rest is not None else ())))

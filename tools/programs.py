@@ -42,7 +42,7 @@ class Program(NamedTuple):
         return os.access(file, os.X_OK) and lines == self.lines() and not any(is_newer(crate, start) for crate in self.crates)
 
     def take(self, is_proved, made, start):
-        """Puts what a build made where the launcher looks for it. `start` is when the build began, so that what was edited since is newer."""
+        """Puts what a build made where the launcher looks for it. `start` is when the build began: what was edited since is newer."""
         file = self.file(is_proved)
         os.makedirs(os.path.dirname(file), exist_ok=True)
         shutil.copyfile(made, f"{file}.new")

@@ -75,7 +75,8 @@ def of_words(program, count, seed):
         words = [random_word(chance, list(of_commands), options) for _ in range(chance.randrange(1, 6))]
         said = answer(words)
         if said:
-            came = subprocess.run([program, *words], stdin=subprocess.DEVNULL, capture_output=True, text=True, cwd=folder, timeout=60, check=False)
+            how = {"stdin": subprocess.DEVNULL, "capture_output": True, "text": True, "cwd": folder, "timeout": 60, "check": False}
+            came = subprocess.run([program, *words], **how)
             compared += 1
             if (came.returncode, came.stderr or came.stdout) != (said.status, said.text):
                 wrong.append(f"{words}: {said.text!r} in place of {came.stderr or came.stdout!r}")
