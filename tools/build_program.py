@@ -20,7 +20,7 @@ import time
 from command_words import first_commands
 from crate_copies import TOP, copy_crates
 from lanes import lanes
-from programs import SMALL
+from programs import SMALL, origin, said_by
 
 INTERRUPTS = (signal.SIGINT, signal.SIGTERM, signal.SIGHUP)
 PROVED = re.compile(r"rt: (\w+) proved")
@@ -56,13 +56,6 @@ def jobs():
     if not (asked.isdigit() and int(asked) >= 1):
         raise Failed(f"BENCH_JOBS is a number from 1 on, and no {asked}")
     return {"RT_JOBS": asked}
-
-
-def said_by(*words):
-    """Returns what a command prints; nothing if it is not there."""
-    if not shutil.which(words[0]):
-        return ""
-    return subprocess.run(words, stdin=subprocess.DEVNULL, stdout=subprocess.PIPE, stderr=subprocess.DEVNULL, text=True).stdout.strip()
 
 
 def store():
@@ -196,12 +189,6 @@ def warn_of_the_kit():
         tell(f"the kit here is {kit}; bench was proved with {', '.join(kits)}")
 
 
-def origin():
-    """Returns the commit of the sources, if this is a clone, and the kit, as `./bench --version` says them."""
-    commit = said_by("git", "-C", TOP, "describe", "--always", "--dirty") if os.path.exists(f"{TOP}/.git") else ""
-    return f"{'at commit ' + commit if commit else 'from no commit'}, with {said_by('rt', 'version')}"
-
-
 def begin(program):
     """Says what is proved, what that takes, and what else there is."""
     if program is SMALL:
@@ -227,11 +214,11 @@ def prove(program):
                 return
         test_room(program)
         begin(program)
-        start = time.time()
+        start, said = time.time(), origin()
         with tempfile.TemporaryDirectory(prefix="bench-build-") as room:
             try:
                 run = Build(program, room, environment)
-                program.take(True, run.run(), start)
+                program.take(True, run.run(), start, said)
                 tell(f"{program.called} is proved and built, in {run.minutes()} minutes")
             except (Failed, OSError) as why:
                 # (a disk that the copy has filled has room again, once it is removed)

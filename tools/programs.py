@@ -1,13 +1,33 @@
 """The two programs of bench: the crate of each, what it takes to build it, and what of it is built.
 
-A program stands in the folder `out` of its crate: proved under the crate's name, and compiled without proofs as `unproved`. Beside it a
-file as old as the start of its build has the lines of crates.txt that it was built by. It is fresh as long as these lines are the same
-and no file that its crates are proved from is newer; so an edit in a crate that only the whole program uses leaves the small one fresh."""
+A program is in the folder `out` of its crate: proved under the crate's name, and compiled without proofs as `unproved`. A file in the
+same folder, as old as the start of its build, says of what it was built: a line with the commit and the kit, and the lines of crates.txt
+that it was built by. The program is fresh as long as these lines are the same and no file that its crates are proved from is newer; so an
+edit in a crate that only the whole program uses leaves the small one fresh."""
 import os
 import shutil
+import subprocess
 from typing import NamedTuple
 
 from crate_copies import PROVED_FROM, TOP, crates_below, lines_of_crates
+
+
+def said_by(*words):
+    """Returns what a command prints; nothing if it is not there."""
+    if not shutil.which(words[0]):
+        return ""
+    said = subprocess.run(words, stdin=subprocess.DEVNULL, stdout=subprocess.PIPE, stderr=subprocess.DEVNULL, text=True, check=False)
+    return said.stdout.strip()
+
+
+def commit():
+    """Returns the commit of the sources; nothing if this is no clone."""
+    return said_by("git", "-C", TOP, "describe", "--always", "--dirty") if os.path.exists(f"{TOP}/.git") else ""
+
+
+def origin():
+    """Returns the commit of the sources and the kit, as `./bench --version` says them."""
+    return f"{'at commit ' + commit() if commit() else 'from no commit'}, with {said_by('rt', 'version')}"
 
 
 class Program(NamedTuple):
@@ -33,23 +53,29 @@ class Program(NamedTuple):
 
     def is_fresh(self, is_proved):
         """Returns whether the program is built, and as its sources are."""
+        start, _, lines = self.built(is_proved)
+        return start is not None and lines == self.lines() and not any(is_newer(crate, start) for crate in self.crates)
+
+    def built(self, is_proved):
+        """Returns when the build of the program began, its commit and kit, and its lines of crates.txt; Nones if it is not built."""
         file = self.file(is_proved)
         try:
             with open(f"{file}.built", encoding="utf-8") as built:
-                start, lines = os.fstat(built.fileno()).st_mtime_ns, built.read()
+                start, (said, _, lines) = os.fstat(built.fileno()).st_mtime_ns, built.read().partition("\n")
         except OSError:
-            return False
-        return os.access(file, os.X_OK) and lines == self.lines() and not any(is_newer(crate, start) for crate in self.crates)
+            return None, None, None
+        return (start, said, lines) if os.access(file, os.X_OK) else (None, None, None)
 
-    def take(self, is_proved, made, start):
-        """Puts what a build made where the launcher looks for it. `start` is when the build began: what was edited since is newer."""
+    def take(self, is_proved, made, start, said):
+        """Puts what a build made where the launcher looks for it. `start` is when the build began: what was edited since is newer. `said`
+        was its `origin` then."""
         file = self.file(is_proved)
         os.makedirs(os.path.dirname(file), exist_ok=True)
         shutil.copyfile(made, f"{file}.new")
         os.chmod(f"{file}.new", 0o755)
         os.replace(f"{file}.new", file)
         with open(f"{file}.built", "w", encoding="utf-8") as built:
-            built.write(self.lines())
+            built.write(f"{said}\n{self.lines()}")
         os.utime(f"{file}.built", (start, start))
 
 

@@ -9,7 +9,6 @@ fails after LONGEST seconds. `.ci/run`, the merge gate, is left out unless --gat
 
 It prints a line for each command that failed, and ends with status 1 if one did."""
 import argparse
-import glob
 import os
 import re
 import shutil
@@ -21,6 +20,7 @@ import time
 sys.dont_write_bytecode = True
 
 from crate_copies import TOP
+from programs import SMALL, WHOLE
 
 # How long a command may take, in seconds.
 LONGEST = 120
@@ -51,13 +51,14 @@ def commands(page):
 def fresh_clone(folder):
     """Makes a clone of this repository in a folder, with the programs that are built here."""
     subprocess.run(["git", "clone", "--quiet", TOP, folder], check=True)
-    for built in glob.glob(f"{TOP}/crates/*/out/built"):
-        there = os.path.dirname(built).replace(TOP, folder)
-        program = f"{os.path.dirname(built)}/{os.path.basename(os.path.dirname(os.path.dirname(built)))}"
-        os.makedirs(there)
-        shutil.copy2(program, there)
-        shutil.copy(built, there)
-        os.utime(f"{there}/built", (time.time() + 1,) * 2)
+    for program in (SMALL, WHOLE):
+        if program.is_fresh(True):
+            there = program.file(True).replace(TOP, folder)
+            os.makedirs(os.path.dirname(there))
+            shutil.copy2(program.file(True), there)
+            shutil.copy(f"{program.file(True)}.built", f"{there}.built")
+            # (what the clone wrote is not newer)
+            os.utime(f"{there}.built", (time.time() + 1,) * 2)
 
 
 def fault_of(command, shown, folder):

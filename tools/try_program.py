@@ -11,6 +11,7 @@ import tempfile
 import time
 
 from crate_copies import TOP
+from programs import origin
 
 # How often it is looked whether the program runs, and how long nothing is said, in seconds.
 LOOKS, SILENCE = 0.2, 30
@@ -73,10 +74,10 @@ def compile_unproved(program):
         return 1
     for it in (signal.SIGTERM, signal.SIGHUP):
         signal.signal(it, interrupt)
-    start = time.time()
+    start, said = time.time(), origin()
     try:
         with tempfile.TemporaryDirectory(prefix="bench-unproved-") as room:
-            program.take(False, compiled(program, room), start)
+            program.take(False, compiled(program, room), start, said)
         return 0
     except KeyboardInterrupt:
         tell("interrupted")
