@@ -1,2 +1,4 @@
 -- The proofs.
 pub mod Unnamed
+pub mod Changes
+pub mod Places

@@ -1,25 +1,25 @@
 //! The changes by which a file gets other bytes.
-ghost use Rattle.std.specs.Prelude.{◌≡◌, ◌≤◌, true, OnOk, IfOk};
-ghost use Rattle.std.specs.List.{AllByRecursion};
+ghost use Rattle.std.specs.Prelude.{◌≡◌, ◌≤◌, ◌<◌, ◌+◌, ◌^◌, ℕ, true, List, [], length, slice_get, OnOk, IfOk, IfSome};
 ghost use Rattle.disk_model.specs.declared.change.Change.TheVariants.{Create, Write};
-ghost use Rattle.disk_model.specs.Files.{IsFormed, IsMade, IsName, MayCome, changed};
+ghost use Rattle.disk_model.specs.declared.change.NamedFile.{NamedFile};
+ghost use Rattle.disk_model.specs.Files.{IsFormed, IsMade, IsName, MayCome, changed, with_bytes};
+ghost use Rattle.disk_files.specs.Putting.{Makes, with_file};
 
 use byte_list::Bytes;
-use disk_model::{Change, LONGEST_FILE, LONGEST_FILE_WRITE, MOST_FILES, made_files_change};
+use disk_model::{Change, LONGEST_FILE, LONGEST_FILE_WRITE, MOST_FILES, checkpoints_fit};
 use faults::{CopyRefusal, Fault, Refusal};
-use files::FileList;
+use files::{FileList, part_of};
 use std::alloc::{AllocError, Global};
 
 /// Does a change that is possible, and notes it.
+#[tactic(auto, using(crate::proofs::Changes::makes_more))]
 fn make(changes: &mut Vec<Change>, files: &mut FileList, change: Change) -> Result<(), AllocError>
-    requires noted { AllByRecursion IsFormed changes.old.items }
-    requires made { IsMade files.old }
     requires formed { IsFormed change }
     requires possible { MayCome files.old change }
-    ensures noted { OnOk result (AllByRecursion IsFormed changes.new.items) }
-    ensures made { OnOk result (IsMade files.new) }
+    ensures makes { (first : List NamedFile) → Makes first files.old changes.old.items → OnOk result (Makes first files.new changes.new.items) }
+    ensures done { OnOk result (files.new ≡ changed files.old change) }
+    ensures counted { OnOk result (length changes.new.items ≡ length changes.old.items + 1) }
 {
-    made_files_change();
     files.change(&change)?;
     changes.push(change)?;
     Ok(())
@@ -36,14 +36,15 @@ fn may_create(files: &FileList, name: &[u8]) -> bool
     }
 }
 
-/// The place of a file, as a change names it. No disk has a file at a greater place than two bytes can say.
+/// The place of a file, as a change names it.
 fn two_bytes(place: usize) -> u16
-    ensures { result ≤ place }
+    requires { place < 2 ^ 16 }
+    ensures { result ≡ place }
 {
-    place.min(usize::from(u16::MAX)) as u16
+    place as u16
 }
 
-/// Makes a file of this name, or empties it where it is there. Gives its place.
+/// Makes a file of this name, or empties the file that has it. Gives its place.
 fn begin(
     alloc: Global,
     changes: &mut Vec<Change>,
@@ -51,11 +52,13 @@ fn begin(
     name: &[u8],
 ) -> Result<u16, Fault>
     requires name { IsName name.now }
-    requires noted { AllByRecursion IsFormed changes.old.items }
     requires made { IsMade files.old }
-    ensures noted { IfOk result (λ _. AllByRecursion IsFormed changes.new.items) }
-    ensures made { IfOk result (λ _. IsMade files.new) }
+    ensures makes { (first : List NamedFile) → Makes first files.old changes.old.items → IfOk result (λ _. Makes first files.new changes.new.items) }
+    ensures empty { IfOk result (λ file. IfSome (slice_get files.new file) (λ (f : NamedFile). f.bytes ≡ [])) }
+    ensures file { IfOk result (λ file. (bytes : List ℕ) → with_bytes files.new file (slice_get files.new file) (λ _. bytes) ≡ with_file files.old name.now bytes) }
+    ensures counted { IfOk result (λ _. length changes.new.items ≡ length changes.old.items + 1) }
 {
+    checkpoints_fit();
     if let Some(place) = files.find(name) {
         let file = two_bytes(place);
         make(changes, files, Change::Empty(file))?;
@@ -81,7 +84,7 @@ fn may_write(files: &FileList, file: u16, offset: u32, bytes: &[u8]) -> bool
         && end <= u64::from(LONGEST_FILE)
 }
 
-/// Writes bytes into a file. TooLong where it would get longer than a file may be.
+/// Writes bytes into an empty file. TooLong where it would get longer than a file may be.
 fn write(
     alloc: Global,
     changes: &mut Vec<Change>,
@@ -89,27 +92,28 @@ fn write(
     file: u16,
     bytes: &[u8],
 ) -> Result<(), Fault>
-    requires noted { AllByRecursion IsFormed changes.old.items }
-    requires made { IsMade files.old }
-    ensures noted { OnOk result (AllByRecursion IsFormed changes.new.items) }
-    ensures made { OnOk result (IsMade files.new) }
+    requires empty { IfSome (slice_get files.old file) (λ (f : NamedFile). f.bytes ≡ []) }
+    ensures makes { (first : List NamedFile) → Makes first files.old changes.old.items → OnOk result (Makes first files.new changes.new.items) }
+    ensures written { OnOk result (files.new ≡ with_bytes files.old file (slice_get files.old file) (λ _. bytes.now)) }
+    ensures counted { OnOk result (length changes.new.items ≤ length changes.old.items + 16) }
 {
     let mut offset = 0u32;
-    for part in bytes.chunks(LONGEST_FILE_WRITE as usize) {
+    while (offset as usize) < bytes.len() {
+        let part = part_of(bytes, offset as usize, LONGEST_FILE_WRITE as usize);
         if !may_write(files, file, offset, part) {
             return Err(Fault::from(Refusal::Copy(CopyRefusal::TooLong)));
         }
-        let bytes = Bytes::copy_of(alloc, part)?;
+        let written = Bytes::copy_of(alloc, part)?;
         make(
             changes,
             files,
             Change::Write {
                 file,
                 offset,
-                bytes,
+                bytes: written,
             },
         )?;
-        offset = offset.saturating_add(LONGEST_FILE_WRITE);
+        offset += LONGEST_FILE_WRITE;
     }
     Ok(())
 }
@@ -123,8 +127,9 @@ pub fn changes_putting(
 ) -> Result<Vec<Change>, Fault>
     requires name { IsName name.now }
     requires made { IsMade files.old }
-    ensures formed { IfOk result (λ changes. AllByRecursion IsFormed changes.items) }
-    ensures made { IfOk result (λ _. IsMade files.new) }
+    ensures makes { IfOk result (λ changes. Makes files.old files.new changes.items) }
+    ensures file { IfOk result (λ _. files.new ≡ with_file files.old name.now bytes.now) }
+    ensures few { IfOk result (λ changes. length changes.items ≤ 64) }
 {
     let mut changes = Vec::new(alloc);
     let file = begin(alloc, &mut changes, files, name)?;

@@ -1,8 +1,11 @@
-//! Files on disks that stand in files of the host: `cat_file` copies one out, `put_file` one in, and `print_differences` compares two
-//! disks. A file is put as one group of changes, by the stages of a durable run, so that a disk is never left in between. Proved is
-//! that the changes of a put are possible, so that each such disk can be read.
+//! Files on disks that are files of the host: `cat_file` copies one out, `put_file` one in, and `print_differences` compares two disks.
+//! A file is put as one group of changes, by the stages of a durable run, so that a disk is never left in between.
+//!
+//! Read `begin_put` first. Proved of the group that it begins: its changes are possible in order, by them the file of the name has the
+//! given bytes, every other file stays as it is, and no change is left for later.
 #![tactic(auto)]
 
+mod begun;
 mod comparing;
 mod edit;
 mod names;
