@@ -1,1 +1,3 @@
+-- The lemmas.
 mod Calm
+mod Written

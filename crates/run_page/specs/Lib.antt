@@ -1,1 +1,3 @@
+-- The definitions.
 pub mod Embedding
+pub mod Page

@@ -1,4 +1,8 @@
 //! The page around a run.
+ghost use Rattle.std.specs.Prelude.{OnOk};
+ghost use Rattle.std.specs.Io.KnownBytes.{Appends};
+ghost use Rattle.run_page.specs.Page.{page_of};
+
 use crate::embedding::embedded;
 use crate::texts::{END, MIDDLE, START};
 use faults::Fault;
@@ -6,13 +10,10 @@ use pictures::escaped;
 use std::alloc::Global;
 use std::io::Write;
 
-/// Writes the page of a run of this name, which is this JSON.
-pub fn write_html<O: Write>(
-    alloc: Global,
-    name: &str,
-    json: &str,
-    out: &mut O,
-) -> Result<(), Fault> {
+/// Writes the page of a run of this name and with this JSON.
+pub fn write_html<O: Write>(alloc: Global, name: &str, json: &str, out: &mut O) -> Result<(), Fault>
+    ensures { OnOk result (Appends (O.contents out.old) (O.contents out.new) (page_of name.now json.now)) }
+{
     let title = escaped(alloc, name.as_bytes())?;
     let data = embedded(alloc, json.as_bytes())?;
     out.write_all(START.as_bytes())?;

@@ -1,4 +1,8 @@
 //! A script played for its page.
+ghost use Rattle.std.specs.Prelude.{ℕ, List, OnOk};
+ghost use Rattle.std.specs.Io.KnownBytes.{Appends};
+ghost use Rattle.run_page.specs.Page.{page_of};
+
 use crate::boots::BootRecorder;
 use crate::crash::fill_texts;
 use crate::data::{BootData, RunData};
@@ -280,7 +284,10 @@ pub fn write_page<R: Files + AllocGlobal, O: Write>(
     rt: &R,
     paged: PagedScript<'_>,
     out: &mut O,
-) -> Result<(), Fault> {
+) -> Result<(), Fault>
+    // Whatever the run was, what is written is the page of its name and of some JSON.
+    ensures { OnOk result ((json : List ℕ) × Appends (O.contents out.old) (O.contents out.new) (page_of paged.entry.name.now json)) }
+{
     let name = paged.name;
     let json = json_of(rt, paged)?;
     write_html(rt.alloc(), name, json.as_str(), out)
