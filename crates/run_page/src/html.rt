@@ -14,8 +14,9 @@ use std::io::Write;
 pub fn write_html<O: Write>(alloc: Global, name: &str, json: &str, out: &mut O) -> Result<(), Fault>
     ensures { OnOk result (Appends (O.contents out.old) (O.contents out.new) (page_of name.now json.now)) }
 {
-    let title = escaped(alloc, name.as_bytes())?;
-    let data = embedded(alloc, json.as_bytes())?;
+    let (name, json) = (name.as_bytes(), json.as_bytes());
+    let title = escaped(alloc, name)?;
+    let data = embedded(alloc, json)?;
     out.write_all(START.as_bytes())?;
     out.write_all(title.as_slice())?;
     out.write_all(MIDDLE.as_bytes())?;
