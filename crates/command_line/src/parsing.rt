@@ -1,24 +1,17 @@
 //! `parse`: reads the words of the command line as a task.
 use crate::command::{command_rows, row_named};
-use crate::refusing::{test_numbers, with_usage};
-use crate::rows::commands_of;
+use crate::given::Given;
+use crate::rules::refusal;
 use crate::task::{Task, task_of};
 use clap::error::ErrorKind;
 use clap::{Arg, ArgAction, ArgMatches, Command, Error};
 use std::alloc::{AllocError, Global};
-
-/// What the program is.
-const ABOUT: &str =
-    "A RISC-V bench on an externally synchronous kernel; without a command, the script on standard input is replayed";
 
 /// Which bench it is, as the file VERSION at the root says.
 const VERSION: &str = "0.1.0";
 
 /// The option of every command that has reasons told.
 const EXPLAIN: &str = "explain";
-
-/// Where `--explain` stands in a help: after all options but `--help`, whose place is 999.
-const BEFORE_HELP: usize = 998;
 
 /// What the words of a command line ask for.
 #[derive(Drop)]
@@ -28,36 +21,35 @@ pub struct Arguments<'a> {
     pub explain: bool,
 }
 
-/// The option `--explain`, which may stand before the command or among its own options.
-fn explain<'a>(alloc: Global) -> Arg<'a> {
-    Arg::new(alloc, EXPLAIN)
+/// The program, with its commands. Its usage begins with its name, so that it can be pasted.
+fn program<'a>(alloc: Global) -> Result<Command<'a>, AllocError> {
+    let mut commands = Vec::new(alloc);
+    for rows in command_rows() {
+        for row in rows {
+            commands.push(row.command(alloc)?)?;
+        }
+    }
+    // It may stand before the command or among its options, and in a help just before `--help`, whose place is 999.
+    let explain = Arg::new(alloc, EXPLAIN)
         .long(EXPLAIN)
         .help("say of a refusal, or a trap, which file it is and why")
         .action(ArgAction::SetTrue)
         .global(true)
-        .display_order(BEFORE_HELP)
+        .display_order(998);
+    Command::new(alloc, "bench")
+        .about(
+            "A RISC-V bench on an externally synchronous kernel; without a command, the script on standard input is replayed",
+        )
+        .version(VERSION)
+        .override_usage("bench < SCRIPT\n       bench <COMMAND>")
+        .no_binary_name(true)
+        .subcommand_required(true)
+        .bin_name("bench")?
+        .arg(explain)?
+        .subcommands(commands)
 }
 
-/// The program, without its commands. Its usage begins with its name, so that it can be pasted.
-fn program<'a>(alloc: Global) -> Result<Command<'a>, AllocError> {
-    Ok(
-        Command::new(alloc, "bench")
-            .bin_name("bench")?
-            .about(ABOUT)
-            .version(VERSION)
-            .override_usage("bench < SCRIPT\n       bench <COMMAND>")
-            .no_binary_name(true)
-            .subcommand_required(true)
-            .arg(explain(alloc))?,
-    )
-}
-
-fn commands<'a>(alloc: Global) -> Result<Command<'a>, AllocError> {
-    let commands = commands_of(alloc, &command_rows())?;
-    program(alloc)?.subcommands(commands)
-}
-
-/// What the command of this name asks for with its arguments. None where there is no such command, or an argument is missing.
+/// What the command of this name asks for with its arguments. None if there is no such command.
 fn asked_of<'a>(
     alloc: Global,
     name: &str,
@@ -66,37 +58,50 @@ fn asked_of<'a>(
     let Some(row) = row_named(name) else {
         return Ok(None);
     };
-    test_numbers(alloc, row, matches)?;
-    let explain = matches.get_flag(EXPLAIN);
-    match task_of(alloc, row.kind, matches)? {
+    let given = Given { row, matches };
+    if let Some(error) = refusal(alloc, &given)? {
+        return Err(error);
+    }
+    let explain = given.flag(EXPLAIN);
+    match task_of(alloc, &given)? {
         Some(task) => Ok(Some(Arguments { task, explain })),
         None => Ok(None),
     }
 }
 
+/// The message in the text of a refusal, without what stands round it.
+fn message_of(text: &str) -> Option<&str> {
+    let (message, _rest) = text.strip_prefix("error: ")?.split_once("\n\n")?;
+    Some(message)
+}
+
+/// A refusal with the usage of its command. If an option has no value, the library leaves the usage out.
+fn with_usage(alloc: Global, words: &[String], error: Error) -> Result<Error, AllocError> {
+    if error.kind() != ErrorKind::InvalidValue {
+        return Ok(error);
+    }
+    let text = format!(in alloc; "{error}")?;
+    for word in words {
+        if !word.starts_with('-') {
+            return match (row_named(word.as_str()), message_of(text.as_str())) {
+                (Some(row), Some(message)) => row.command(alloc)?.error(error.kind(), message),
+                _ => Ok(error),
+            };
+        }
+    }
+    Ok(error)
+}
+
 /// What the words ask for, if a command is among them.
 fn asked_for<'a>(
     alloc: Global,
-    commands: &mut Command<'a>,
+    program: &mut Command<'a>,
     words: &'a [String],
 ) -> Result<Option<Arguments<'a>>, Error> {
-    let matches = commands.try_get_matches_from_mut(words)?;
+    let matches = program.try_get_matches_from_mut(words)?;
     match matches.subcommand() {
         Some((name, matches)) => asked_of(alloc, name, matches),
         None => Ok(None),
-    }
-}
-
-/// What the words ask for, or why they ask for nothing.
-fn read<'a>(
-    alloc: Global,
-    commands: &mut Command<'a>,
-    words: &'a [String],
-) -> Result<Arguments<'a>, Error> {
-    match asked_for(alloc, commands, words) {
-        Ok(Some(asked)) => Ok(asked),
-        Ok(None) => Err(commands.error(ErrorKind::InvalidSubcommand, "no such command")?),
-        Err(error) => Err(with_usage(alloc, words, error)?),
     }
 }
 
@@ -109,6 +114,10 @@ pub fn parse<'a>(alloc: Global, words: &'a [String]) -> Result<Arguments<'a>, Er
             explain: false,
         });
     }
-    let mut commands = commands(alloc)?;
-    read(alloc, &mut commands, words)
+    let mut program = program(alloc)?;
+    match asked_for(alloc, &mut program, words) {
+        Ok(Some(asked)) => Ok(asked),
+        Ok(None) => Err(program.error(ErrorKind::InvalidSubcommand, "no such command")?),
+        Err(error) => Err(with_usage(alloc, words, error)?),
+    }
 }

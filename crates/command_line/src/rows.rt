@@ -1,56 +1,55 @@
-//! The types of the table of commands: a row is what the help says of a command, and the arguments that it takes.
-use crate::disk_command::DISK_USAGE;
+//! The types of the table of commands, and what the library for command lines is told of a row.
+use crate::rows::Rule::Number;
+use crate::task::DISK_USAGE;
 use clap::{Arg, ArgAction, Command};
 use kernel_model::MOST_PROGRAMS;
 use std::alloc::{AllocError, Global};
 
-/// An argument: how it is written, then `: ` and what the help says of it. `NAME` stands at its place, and has to be there; `NAME..8`
-/// up to so many times, and `NAME..` any number of times. `--name` is an option without a value, and `--name <VALUE>` one with a
-/// value; with `..` after it, it may be given any number of times.
-pub type ArgumentRow = &'static str;
+/// How an argument is written, then `: ` and its help. `NAME` is a word at its place, which has to be there; `NAME..8` up to 8 of them,
+/// and `NAME..` any number. `--name` is an option without a value, `--name <VALUE>` one with a value, and with `..` after it one that may
+/// be repeated. A command is written by its name. Rules name an option without its `--`.
+pub type Text = &'static str;
 
-/// An option whose value is a decimal number: its name, the least and the most number, and the number that holds where none is given,
-/// if there is one.
-pub type NumberRow = (&'static str, u64, u64, Option<&'static str>);
-
-/// Which command a row is.
+/// What the words of a command have to meet.
 #[derive(Clone, Copy)]
-pub enum CommandKind {
-    Replay,
-    Picture,
-    Page,
-    Crashes,
-    Explore,
-    Assemble,
-    Check,
-    Image,
-    Symbols,
-    List,
-    Diff,
-    Debug,
-    Gdb,
-    Disk,
-    Run,
-    Exec,
+pub enum Rule {
+    /// The option's value is a decimal number from the first to the second. The third is its default, if it has one.
+    Number(Text, u64, u64, Option<Text>),
+    /// The option's value is one of these.
+    Choice(Text, Text, Text, Text, Text),
+    /// The option's value is I/N with 1 <= I <= N <= 9999, which the second text says.
+    Part(Text, Text),
+    /// A tape has one file at most, and standard input is on one tape at most.
+    Tapes,
+    /// Each of the first options, named with blanks between them, needs the second. The third text says more of it.
+    Needs(Text, Text, Text),
+    /// The first option excludes each of the second ones; `IMAGE` among them is more than one image.
+    Excludes(Text, Text),
+    /// Each of the first options means nothing without the second.
+    Without(Text, Text),
+    /// The option's value is not standard input.
+    NotInput(Text),
+    /// There are at most so many words of the first name, called by the second, or the option is given.
+    Most(Text, usize, Text, Text),
+    /// Two words are different paths.
+    Differ(Text, Text),
+    /// The words are one of the forms of `disk`.
+    Forms,
 }
 
 /// A command.
 pub struct CommandRow {
-    pub kind: CommandKind,
-    pub name: &'static str,
-    /// The name as the usage gives it: `bench` and then `name`.
-    pub whole: &'static str,
-    pub about: &'static str,
-    /// An example, which stands at the end of the help.
-    pub example: &'static str,
-    pub arguments: &'static [ArgumentRow],
-    /// Those of its options that are numbers.
-    pub numbers: &'static [NumberRow],
+    pub says: Text,
+    /// What stands at the end of the help.
+    pub example: Text,
+    pub arguments: &'static [Text],
+    /// In the order in which they are tested.
+    pub rules: &'static [Rule],
 }
 
-/// How an argument is written, and what the help says of it.
-fn parts_of(row: &str) -> (&str, &str) {
-    row.split_once(": ").unwrap_or((row, ""))
+/// How it is written, and the help.
+fn parts_of(text: &str) -> (&str, &str) {
+    text.split_once(": ").unwrap_or((text, ""))
 }
 
 /// The name, the value, if it has one, and what follows it, in how an option is written after its `--`.
@@ -60,14 +59,6 @@ fn option_parts(option: &str) -> (&str, Option<&str>, &str) {
     };
     let (value, times) = rest.split_once('>').unwrap_or((rest, ""));
     (name, Some(value), times)
-}
-
-/// How the option of a row is written, and its row among numbers, if it is one of them.
-pub fn number_of_row<'a>(row: &'a str, numbers: &[NumberRow]) -> Option<(&'a str, NumberRow)> {
-    let (written, _help) = parts_of(row);
-    let (name, _, _) = option_parts(written.strip_prefix("--")?);
-    let number = numbers.iter().find(|number| number.0 == name)?;
-    Some((written, *number))
 }
 
 /// An argument that is given by its place.
@@ -82,68 +73,74 @@ fn placed<'a>(alloc: Global, written: &'a str) -> Arg<'a> {
     } else {
         MOST_PROGRAMS
     };
-    Arg::new(alloc, name)
-        .required(true)
-        .num_args(1..=most)
-        .action(ArgAction::Append)
+    let arg = Arg::new(alloc, name).required(true);
+    arg.num_args(1..=most).action(ArgAction::Append)
 }
 
-fn option<'a>(alloc: Global, option: &'a str) -> Arg<'a> {
-    let (name, value, times) = option_parts(option);
-    let arg = Arg::new(alloc, name).long(name);
-    match value {
-        None => arg.action(ArgAction::SetTrue),
-        Some(value) if times.is_empty() => arg.value_name(value).action(ArgAction::Set),
-        Some(value) => arg.value_name(value).action(ArgAction::Append),
+impl CommandRow {
+    pub fn name(&self) -> &'static str {
+        let (name, _about) = parts_of(self.says);
+        name
     }
-}
 
-/// The argument of a row. The text of a number is tested after all words are parted, by `faulty_number`.
-fn argument_of<'a>(alloc: Global, row: &'a str, numbers: &[NumberRow]) -> Arg<'a> {
-    let (written, help) = parts_of(row);
-    let arg = match written.strip_prefix("--") {
-        Some(name) => option(alloc, name),
-        None => placed(alloc, written),
-    };
-    let arg = arg.help(help);
-    match number_of_row(row, numbers) {
-        Some((_, (_, _, _, Some(default)))) => arg.default_value(default),
-        _ => arg,
+    /// How the option of this name is written. All else is written as it is named.
+    pub fn written(&self, name: &'static str) -> &'static str {
+        for argument in self.arguments {
+            let (written, _help) = parts_of(*argument);
+            if let Some(option) = written.strip_prefix("--")
+                && option_parts(option).0 == name
+            {
+                return written;
+            }
+        }
+        name
     }
-}
 
-fn arguments_of<'a>(alloc: Global, row: &CommandRow) -> Result<Vec<Arg<'a>>, AllocError> {
-    let mut arguments = Vec::new(alloc);
-    for argument in row.arguments {
-        arguments.push(argument_of(alloc, *argument, row.numbers))?;
+    fn default_of(&self, name: &str) -> Option<&'static str> {
+        for rule in self.rules {
+            if let Number(its_name, _, _, default) = *rule
+                && its_name == name
+            {
+                return default;
+            }
+        }
+        None
     }
-    Ok(arguments)
-}
 
-/// The command of a row, with its arguments.
-pub fn command_of<'a>(alloc: Global, row: &CommandRow) -> Result<Command<'a>, AllocError> {
-    let arguments = arguments_of(alloc, row)?;
-    let command = Command::new(alloc, row.name)
-        .bin_name(row.whole)?
-        .about(row.about)
-        .args(arguments)?
-        .after_help(row.example);
-    match row.kind {
-        CommandKind::Disk => Ok(command.override_usage(DISK_USAGE)),
-        _ => Ok(command),
-    }
-}
-
-/// The commands of tables of rows, with their arguments.
-pub fn commands_of<'a>(
-    alloc: Global,
-    tables: &[&[CommandRow]],
-) -> Result<Vec<Command<'a>>, AllocError> {
-    let mut commands = Vec::new(alloc);
-    for rows in tables {
-        for row in *rows {
-            commands.push(command_of(alloc, row)?)?;
+    /// The argument of a text. Values are tested by the rules, once all words are known.
+    fn argument<'a>(&self, alloc: Global, text: &'a str) -> Arg<'a> {
+        let (written, help) = parts_of(text);
+        let Some(option) = written.strip_prefix("--") else {
+            return placed(alloc, written).help(help);
+        };
+        let (name, value, times) = option_parts(option);
+        let arg = Arg::new(alloc, name).long(name).help(help);
+        let arg = match self.default_of(name) {
+            Some(default) => arg.default_value(default),
+            None => arg,
+        };
+        match value {
+            None => arg.action(ArgAction::SetTrue),
+            Some(value) if times.is_empty() => arg.value_name(value).action(ArgAction::Set),
+            Some(value) => arg.value_name(value).action(ArgAction::Append),
         }
     }
-    Ok(commands)
+
+    /// The command, with its arguments.
+    pub fn command<'a>(&self, alloc: Global) -> Result<Command<'a>, AllocError> {
+        let mut arguments = Vec::new(alloc);
+        for text in self.arguments {
+            arguments.push(self.argument(alloc, *text))?;
+        }
+        let (name, about) = parts_of(self.says);
+        let whole = format!(in alloc; "bench {name}")?;
+        let command = Command::new(alloc, name)
+            .about(about)
+            .after_help(self.example);
+        let command = command.bin_name(whole.as_str())?.args(arguments)?;
+        if name == "disk" {
+            return Ok(command.override_usage(DISK_USAGE));
+        }
+        Ok(command)
+    }
 }

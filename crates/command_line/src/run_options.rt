@@ -1,15 +1,12 @@
-//! The command `run`, and its options.
+//! The options of the commands `run` and `exec`.
 ghost use Rattle.std.specs.Prelude.{◌≡◌, ◌<◌, ◌≤◌, true, IfSome, vec_len, length};
 ghost use Rattle.std.proofs.Props.{props};
 ghost use Rattle.kernel_model.specs.World.{most_programs, terminal_count};
 
-use crate::numbers::number_of;
-use crate::rows::{CommandKind, CommandRow};
+use crate::command::BY_TURNS;
+use crate::given::Given;
 use crate::tapes::TapePaths;
-use clap::ArgMatches;
-use clap::parser::ValueSource;
 use kernel_model::{MOST_PROGRAMS, TERMINALS};
-use std::alloc::{AllocError, Global};
 
 /// The paths of 1 to 8 images.
 #[derive(Drop)]
@@ -20,6 +17,14 @@ pub struct ImagePaths<'a> {
 }
 
 impl<'a> ImagePaths<'a> {
+    /// These paths, if they are 1 to 8.
+    pub(crate) fn new(paths: Vec<&'a str>) -> Option<ImagePaths<'a>> {
+        if paths.is_empty() || paths.len() > MOST_PROGRAMS {
+            return None;
+        }
+        Some(ImagePaths { paths })
+    }
+
     /// The paths in order.
     pub fn as_slice(&self) -> &[&'a str]
         ensures some { 1 ≤ length result.now }
@@ -60,34 +65,34 @@ pub struct RunOptions<'a> {
     pub status: Option<u32>,
 }
 
-/// The command `run`.
-pub const RUN: CommandRow = CommandRow {
-    kind: CommandKind::Run,
-    name: "run",
-    whole: "bench run",
-    about: "Run images by worker threads, and print what a terminal shows",
-    example: "Example: echo 1 2 3 | bench run --tape - --disk /tmp/disk /tmp/first.image",
-    arguments: &[
-        "--workers <N>: how many workers there are, 1 to 16",
-        "--quantum <Q>: the most instructions that a worker runs at a time, 1 to 1000000",
-        "--disk <FILE>: the disk's file, zeros if there is none; it is written at the end",
-        "--durable: have the disk's file hold each change before what rests on it is printed",
-        "--tape <FILE>: what the first image's program may read; - is standard input",
-        "--tape-of <T=FILE>..: what the program of terminal T may read; may be given for each T",
-        "--term <T>: the terminal that is printed, 0 to 7",
-        "--all-terms: print all terminals, each part after a line that names its terminal",
-        "--fail <K>: which completion of the disk fails, 1 to 2147483647; none if it is not given",
-        "--status <P>: the process whose status is that of the command",
-        "IMAGE..8: the files of 1 to 8 images, for the terminals 0, 1, ..",
-    ],
-    numbers: &[
-        ("workers", 1, 16, Some("4")),
-        ("quantum", 1, 1_000_000, Some("10000")),
-        ("term", 0, 7, Some("0")),
-        ("fail", 1, 2_147_483_647, None),
-        ("status", 1, 4_294_967_295, None),
-    ],
-};
+/// What is to be run for people, and how.
+#[derive(Drop)]
+pub struct ExecOptions<'a> {
+    /// What it has in common with `run`; the images are programs of any kind.
+    pub run: RunOptions<'a>,
+    /// Whether workers are to run it, in threads.
+    pub is_threaded: bool,
+    /// How many instructions may be run, if not any number.
+    pub limit: Option<u64>,
+    /// What decides which process runs next and how long, if chance is to.
+    pub seed: Option<u64>,
+    /// Whether each call is told, and how often each line of the first program was executed.
+    pub tells_calls: bool,
+    pub tells_profile: bool,
+    /// Whether the run is told as an object of JSON, in place of what terminals show.
+    pub is_json: bool,
+    /// The paths, if given, of the files that are to have the run as a script, as a picture, and as a log of instructions.
+    pub record: Option<&'a str>,
+    pub picture: Option<&'a str>,
+    pub log: Option<&'a str>,
+    /// The process whose instructions are logged.
+    pub logged: u32,
+}
+
+/// How many workers there are if none are asked for, and how many instructions a worker runs at a time.
+const WORKERS: u32 = 4;
+
+const QUANTUM: u32 = 10_000;
 
 /// Whether there is this terminal, if one is given.
 fn is_terminal(terminal: Option<u32>) -> bool
@@ -99,13 +104,16 @@ fn is_terminal(terminal: Option<u32>) -> bool
     }
 }
 
-/// A run's numbers. None where one is out of range.
-pub fn run_numbers(
-    workers: u32,
-    quantum: u32,
-    terminal: Option<u32>,
-    fail: Option<u32>,
-) -> Option<RunNumbers> {
+/// A run's numbers. None where one is out of range, which was refused before.
+fn run_numbers(given: &Given<'_, '_>) -> Option<RunNumbers> {
+    let workers = given.number("workers").unwrap_or(WORKERS);
+    let quantum = given.number("quantum").unwrap_or(QUANTUM);
+    let terminal = if given.flag("all-terms") {
+        None
+    } else {
+        given.number("term")
+    };
+    let fail = given.number("fail");
     if workers >= 1 && workers <= 16 && quantum >= 1 && is_terminal(terminal) {
         Some(RunNumbers {
             workers,
@@ -118,73 +126,35 @@ pub fn run_numbers(
     }
 }
 
-/// The number of an option that lies below 2^32.
-pub fn small_number(matches: &ArgMatches<'_>, option: &str) -> Option<u32> {
-    u32::try_from(number_of(matches, option)?).ok()
-}
-
-/// Whether one terminal is asked for, and all of them too.
-pub fn asks_one_and_all(matches: &ArgMatches<'_>) -> bool {
-    matches.get_flag("all-terms") && matches.value_source("term") == Some(ValueSource::CommandLine)
-}
-
-/// The terminal that is printed. None where all are.
-pub fn terminal_of(matches: &ArgMatches<'_>) -> Option<u32> {
-    if matches.get_flag("all-terms") {
-        return None;
+/// The options of `run`, and those that `exec` has too. None where a number is out of range, which was refused before.
+pub fn run_options<'a>(given: &Given<'_, 'a>, images: ImagePaths<'a>) -> Option<RunOptions<'a>> {
+    match run_numbers(given) {
+        Some(numbers) => Some(RunOptions {
+            numbers,
+            disk: given.text("disk"),
+            is_durable: given.flag("durable"),
+            tapes: TapePaths::read(given).0,
+            images,
+            status: given.number("status"),
+        }),
+        None => None,
     }
-    small_number(matches, "term")
 }
 
-fn numbers_of(matches: &ArgMatches<'_>) -> Option<RunNumbers> {
-    let workers = small_number(matches, "workers")?;
-    let quantum = small_number(matches, "quantum")?;
-    let fail = small_number(matches, "fail");
-    run_numbers(workers, quantum, terminal_of(matches), fail)
-}
-
-/// The paths of the images, where they are 1 to 8.
-pub fn images_of<'a>(
-    alloc: Global,
-    matches: &ArgMatches<'a>,
-) -> Result<Option<ImagePaths<'a>>, AllocError> {
-    paths_named(alloc, matches, "IMAGE")
-}
-
-/// The paths that an argument of this name gives, where they are 1 to 8.
-pub fn paths_named<'a>(
-    alloc: Global,
-    matches: &ArgMatches<'a>,
-    name: &str,
-) -> Result<Option<ImagePaths<'a>>, AllocError> {
-    let Some(paths) = matches.get_strs(name) else {
-        return Ok(None);
-    };
-    if paths.is_empty() || paths.len() > MOST_PROGRAMS {
-        return Ok(None);
+/// The options of `exec`, with those that `run` has too.
+pub fn exec_options<'a>(given: &Given<'_, 'a>, run: RunOptions<'a>) -> ExecOptions<'a> {
+    let is_asked = run.is_durable || given.has("workers");
+    ExecOptions {
+        run,
+        is_threaded: is_asked && given.first(BY_TURNS).is_none(),
+        limit: given.number("limit"),
+        seed: given.number("seed"),
+        tells_calls: given.flag("calls"),
+        is_json: given.flag("json"),
+        record: given.text("record"),
+        picture: given.text("picture"),
+        log: given.text("log"),
+        logged: given.number("log-of").unwrap_or(1),
+        tells_profile: given.flag("profile"),
     }
-    let paths = Vec::from_slice(alloc, paths)?;
-    Ok(Some(ImagePaths { paths }))
-}
-
-/// The options of `run`. None where there are more than 8 images. None too where an argument is missing or out of range, which was
-/// refused before.
-pub fn run_options<'a>(
-    alloc: Global,
-    matches: &ArgMatches<'a>,
-) -> Result<Option<RunOptions<'a>>, AllocError> {
-    let Some(numbers) = numbers_of(matches) else {
-        return Ok(None);
-    };
-    let Some(images) = images_of(alloc, matches)? else {
-        return Ok(None);
-    };
-    Ok(Some(RunOptions {
-        numbers,
-        disk: matches.get_str("disk"),
-        is_durable: matches.get_flag("durable"),
-        tapes: TapePaths::of(matches),
-        images,
-        status: small_number(matches, "status"),
-    }))
 }

@@ -1,22 +1,36 @@
 //! `Task`: what the command line asks for.
-use crate::command::{ASSEMBLE, IMAGE, SYMBOLS};
-use crate::crash_options::{CRASHES, CrashOptions, crash_conflict, crash_fault, crash_options};
-use crate::debug_options::{DEBUG, LiveOptions, debug_conflict, live_options};
-use crate::disk_command::{DiskTask, disk_task};
-use crate::exec_options::{EXEC, ExecOptions, exec_conflict, exec_options};
-use crate::explore_options::{
-    EXPLORE, ExploreOptions, explore_conflict, explore_options, faulty_part,
-};
-use crate::gdb_options::{GDB, GdbOptions, gdb_conflict, gdb_options};
-use crate::numbers::number_of;
-use crate::page_command::page_task;
-use crate::refusing::refusal;
-use crate::rows::{CommandKind, CommandRow};
-use crate::run_options::{RUN, RunOptions, asks_one_and_all, run_options};
-use crate::tapes::faulty_tape;
-use clap::error::ErrorKind;
-use clap::{ArgMatches, Error};
+use crate::given::Given;
+use crate::run_options::{ExecOptions, ImagePaths, RunOptions, exec_options, run_options};
+use crate::search_options::{CrashOptions, ExploreOptions, crash_options, explore_options};
+use crate::session_options::{GdbOptions, LiveOptions, gdb_options, live_options};
 use std::alloc::{AllocError, Global};
+
+/// The forms of the command `disk`.
+pub const DISK_USAGE: &str =
+    "bench disk [OPTIONS] <FILE>\n       bench disk [OPTIONS] cat <FILE> <NAME>\n       bench disk [OPTIONS] put <FILE> <NAME> <FROM>\n       bench disk [OPTIONS] diff <FILE> <OTHER>";
+
+/// What is done with a disk.
+#[derive(Clone, Copy)]
+pub enum DiskTask<'a> {
+    /// List the files on it.
+    List(&'a str),
+    /// Print a file on it.
+    Cat {
+        disk: &'a str,
+        name: &'a str,
+    },
+    /// Copy a file of the host onto it.
+    Put {
+        disk: &'a str,
+        name: &'a str,
+        from: &'a str,
+    },
+    /// Compare it with another one.
+    Diff {
+        first: &'a str,
+        second: &'a str,
+    },
+}
 
 /// What the program is to do, a variant for each command.
 #[derive(Drop)]
@@ -89,291 +103,102 @@ pub enum Task<'a> {
     Exec(ExecOptions<'a>),
 }
 
-/// What the arguments of the command `asm` ask for. An image that would be written over its own source is refused.
-fn assemble_task<'a>(alloc: Global, matches: &ArgMatches<'a>) -> Result<Option<Task<'a>>, Error> {
-    match (matches.get_str("SOURCE"), matches.get_str("IMAGE")) {
-        (Some(source), Some(image)) if source == image => Err(refusal(
-            alloc,
-            &ASSEMBLE,
-            ErrorKind::ArgumentConflict,
-            "<SOURCE> and <IMAGE> are the same path",
-        )?),
-        (Some(source), Some(image)) => Ok(Some(Task::Assemble { source, image })),
-        _ => Ok(None),
+/// What is done with a disk. None if the words are none of the forms.
+pub fn disk_task<'a>(given: &Given<'_, 'a>) -> Option<DiskTask<'a>> {
+    match given.texts("WORD") {
+        [disk] => Some(DiskTask::List(*disk)),
+        ["cat", disk, name] => Some(DiskTask::Cat {
+            disk: *disk,
+            name: *name,
+        }),
+        ["put", disk, name, from] => Some(DiskTask::Put {
+            disk: *disk,
+            name: *name,
+            from: *from,
+        }),
+        ["diff", first, second] => Some(DiskTask::Diff {
+            first: *first,
+            second: *second,
+        }),
+        _ => None,
     }
 }
 
-/// What the arguments of the command `image` ask for. An image that would be written over its own executable is refused.
-fn image_task<'a>(alloc: Global, matches: &ArgMatches<'a>) -> Result<Option<Task<'a>>, Error> {
-    match (matches.get_str("ELF"), matches.get_str("IMAGE")) {
-        (Some(linked), Some(image)) if linked == image => Err(refusal(
-            alloc,
-            &IMAGE,
-            ErrorKind::ArgumentConflict,
-            "<ELF> and <IMAGE> are the same path",
-        )?),
-        (Some(linked), Some(image)) => Ok(Some(Task::Image { linked, image })),
-        _ => Ok(None),
-    }
-}
-
-/// What the arguments of the command `symbols` ask for. A file that would be written over its own source is refused.
-fn symbols_task<'a>(alloc: Global, matches: &ArgMatches<'a>) -> Result<Option<Task<'a>>, Error> {
-    match (matches.get_str("SOURCE"), matches.get_str("ELF")) {
-        (Some(source), Some(symbols)) if source == symbols => Err(refusal(
-            alloc,
-            &SYMBOLS,
-            ErrorKind::ArgumentConflict,
-            "<SOURCE> and <ELF> are the same path",
-        )?),
-        (Some(source), Some(symbols)) => Ok(Some(Task::Symbols { source, symbols })),
-        _ => Ok(None),
-    }
-}
-
-/// Refuses the first tape that is not given as it has to be.
-fn test_tapes(alloc: Global, row: &CommandRow, matches: &ArgMatches<'_>) -> Result<(), Error> {
-    match faulty_tape(matches) {
-        None => Ok(()),
-        Some(fault) => {
-            let message = format!(in alloc; "{fault}")?;
-            Err(refusal(alloc, row, ErrorKind::ValueValidation, message.as_str())?)
-        }
-    }
-}
-
-/// Refuses one terminal beside all of them.
-fn test_terminals(alloc: Global, row: &CommandRow, matches: &ArgMatches<'_>) -> Result<(), Error> {
-    if !asks_one_and_all(matches) {
-        return Ok(());
-    }
-    Err(refusal(
-        alloc,
-        row,
-        ErrorKind::ArgumentConflict,
-        "the argument '--all-terms' cannot be used with '--term <T>'",
-    )?)
-}
-
-/// The refusal of a durable run without a disk.
-fn no_disk(alloc: Global, row: &CommandRow) -> Result<Error, AllocError> {
-    refusal(
-        alloc,
-        row,
-        ErrorKind::MissingRequiredArgument,
-        "'--durable' needs '--disk <FILE>'",
-    )
-}
-
-/// Refuses two options that cannot be used together, if they are given.
-fn test_together(
-    alloc: Global,
-    row: &CommandRow,
-    conflict: Option<(&'static str, &'static str)>,
-) -> Result<(), Error> {
-    match conflict {
-        None => Ok(()),
-        Some((one, other)) => {
-            let message = format!(in alloc; "the argument '{one}' cannot be used with '{other}'")?;
-            Err(refusal(alloc, row, ErrorKind::ArgumentConflict, message.as_str())?)
-        }
-    }
-}
-
-/// The refusal of more than eight programs.
-fn too_many_programs(alloc: Global, row: &CommandRow) -> Result<Error, AllocError> {
-    refusal(
-        alloc,
-        row,
-        ErrorKind::TooManyValues,
-        "there are more than 8 programs",
-    )
-}
-
-/// Refuses the number of the process that is logged where no log is written.
-fn test_log(alloc: Global, matches: &ArgMatches<'_>) -> Result<(), Error> {
-    if matches.get_str("log-of").is_none() || matches.get_str("log").is_some() {
-        return Ok(());
-    }
-    Err(refusal(
-        alloc,
-        &EXEC,
-        ErrorKind::MissingRequiredArgument,
-        "'--log-of <P>' needs '--log <FILE>'",
-    )?)
-}
-
-fn exec_task<'a>(alloc: Global, matches: &ArgMatches<'a>) -> Result<Option<Task<'a>>, Error> {
-    test_tapes(alloc, &EXEC, matches)?;
-    test_terminals(alloc, &EXEC, matches)?;
-    test_together(alloc, &EXEC, exec_conflict(matches))?;
-    test_log(alloc, matches)?;
-    match exec_options(alloc, matches)? {
-        Some(options) if options.run.is_durable && options.run.disk.is_none() => {
-            Err(no_disk(alloc, &EXEC)?)
-        }
-        Some(options) => Ok(Some(Task::Exec(options))),
-        None => Err(too_many_programs(alloc, &EXEC)?),
-    }
-}
-
-fn run_task<'a>(alloc: Global, matches: &ArgMatches<'a>) -> Result<Option<Task<'a>>, Error> {
-    test_tapes(alloc, &RUN, matches)?;
-    test_terminals(alloc, &RUN, matches)?;
-    match run_options(alloc, matches)? {
-        Some(options) if options.is_durable && options.disk.is_none() => {
-            Err(no_disk(alloc, &RUN)?)
-        }
-        Some(options) => Ok(Some(Task::Run(options))),
-        // All else is refused by the command itself; but it does not count images before and after an option together.
-        None => Err(too_many_images(alloc, &RUN)?),
-    }
-}
-
-fn replay_task<'a>(matches: &ArgMatches<'a>) -> Option<Task<'a>> {
-    let script = matches.get_str("SCRIPT")?;
-    match number_of(matches, "cone") {
-        Some(event) => Some(Task::ReplayCone { script, event }),
-        None => Some(Task::ReplayFile(script)),
-    }
-}
-
-fn picture_task<'a>(matches: &ArgMatches<'a>) -> Option<Task<'a>> {
-    Some(Task::Picture {
-        script: matches.get_str("SCRIPT")?,
-        cone: number_of(matches, "cone"),
+/// What a command asks for that holds no list of paths. None of other commands.
+fn plain_task<'a>(given: &Given<'_, 'a>) -> Option<Task<'a>> {
+    let script = given.word("SCRIPT");
+    let source = given.word("SOURCE");
+    let image = given.word("IMAGE");
+    Some(match given.row.name() {
+        "replay" => match given.number("cone") {
+            Some(event) => Task::ReplayCone { script, event },
+            None => Task::ReplayFile(script),
+        },
+        "picture" => Task::Picture {
+            script,
+            cone: given.number("cone"),
+        },
+        "asm" => Task::Assemble { source, image },
+        "check" => Task::Check(source),
+        "image" => Task::Image {
+            linked: given.word("ELF"),
+            image,
+        },
+        "symbols" => Task::Symbols {
+            source,
+            symbols: given.word("ELF"),
+        },
+        "list" => Task::List(image),
+        "diff" => Task::Diff {
+            first: given.word("A"),
+            second: given.word("B"),
+            source: given.text("source"),
+        },
+        "debug" if !given.flag("live") => Task::Debug {
+            image,
+            trace: given.text("trace"),
+            source: given.text("source"),
+        },
+        "disk" => Task::Disk(disk_task(given)?),
+        _ => return None,
     })
 }
 
-/// Refuses the first value of `crashes` that is none of its option.
-fn test_values(alloc: Global, matches: &ArgMatches<'_>) -> Result<(), Error> {
-    match crash_fault(alloc, matches)? {
-        None => Ok(()),
-        Some(message) => Err(refusal(
-            alloc,
-            &CRASHES,
-            ErrorKind::ValueValidation,
-            message.as_str(),
-        )?),
+/// What a command asks for with these images. None of a command that takes none.
+fn task_of_images<'a>(given: &Given<'_, 'a>, images: ImagePaths<'a>) -> Option<Task<'a>> {
+    match given.row.name() {
+        "crashes" => Some(Task::Crashes(crash_options(given, images))),
+        "debug" => Some(Task::DebugLive(live_options(given, images))),
+        "gdb" => Some(Task::Gdb(gdb_options(given, images))),
+        "run" => Some(Task::Run(run_options(given, images)?)),
+        "exec" => Some(Task::Exec(exec_options(given, run_options(given, images)?))),
+        _ => None,
     }
 }
 
-/// What the arguments of the command `crashes` ask for. Options that do not go together are refused.
-fn crashes_task<'a>(alloc: Global, matches: &ArgMatches<'a>) -> Result<Option<Task<'a>>, Error> {
-    test_tapes(alloc, &CRASHES, matches)?;
-    test_values(alloc, matches)?;
-    if let Some(message) = crash_conflict(matches) {
-        return Err(refusal(alloc, &CRASHES, ErrorKind::ArgumentConflict, message)?);
-    }
-    match crash_options(alloc, matches)? {
-        Some(options) => Ok(Some(Task::Crashes(options))),
-        None => Err(too_many_programs(alloc, &CRASHES)?),
-    }
-}
-
-fn diff_task<'a>(matches: &ArgMatches<'a>) -> Option<Task<'a>> {
-    Some(Task::Diff {
-        first: matches.get_str("A")?,
-        second: matches.get_str("B")?,
-        source: matches.get_str("source"),
-    })
-}
-
-/// The refusal of more than eight images.
-fn too_many_images(alloc: Global, row: &CommandRow) -> Result<Error, AllocError> {
-    refusal(
-        alloc,
-        row,
-        ErrorKind::TooManyValues,
-        "there are more than 8 images",
-    )
-}
-
-/// Refuses a part that there is not.
-fn test_part(alloc: Global, matches: &ArgMatches<'_>) -> Result<(), Error> {
-    match faulty_part(matches) {
-        None => Ok(()),
-        Some(text) => {
-            let message = format!(in alloc;
-                "invalid value '{text}' for '--part <I/N>': it has to be I/N, two decimal numbers with 1 <= I <= N <= 9999"
-            )?;
-            Err(refusal(
-                alloc,
-                &EXPLORE,
-                ErrorKind::ValueValidation,
-                message.as_str(),
-            )?)
-        }
+/// What a command asks for with these paths.
+fn task_of_paths<'a>(given: &Given<'_, 'a>, paths: Vec<&'a str>) -> Option<Task<'a>> {
+    match given.row.name() {
+        "page" => Some(Task::Page {
+            script: given.word("SCRIPT"),
+            json: given.flag("json"),
+            sources: paths,
+        }),
+        "explore" => Some(Task::Explore(explore_options(given, paths))),
+        _ => task_of_images(given, ImagePaths::new(paths)?),
     }
 }
 
-/// What the arguments of the command `explore` ask for. Options that do not go together are refused.
-fn explore_task<'a>(alloc: Global, matches: &ArgMatches<'a>) -> Result<Option<Task<'a>>, Error> {
-    test_part(alloc, matches)?;
-    test_together(alloc, &EXPLORE, explore_conflict(matches))?;
-    match explore_options(alloc, matches)? {
-        Some(options) => Ok(Some(Task::Explore(options))),
-        None => Err(too_many_images(alloc, &EXPLORE)?),
+/// What a command and its arguments ask for. None only of arguments that its rules refuse.
+pub fn task_of<'a>(alloc: Global, given: &Given<'_, 'a>) -> Result<Option<Task<'a>>, AllocError> {
+    if let Some(task) = plain_task(given) {
+        return Ok(Some(task));
     }
-}
-
-/// What the arguments of the command `debug` without `--live` ask for.
-fn debug_one<'a>(matches: &ArgMatches<'a>, images: &[&'a str]) -> Option<Task<'a>> {
-    Some(Task::Debug {
-        image: *images.first()?,
-        trace: matches.get_str("trace"),
-        source: matches.get_str("source"),
-    })
-}
-
-/// What the arguments of the command `debug` ask for. Options that do not go together are refused.
-fn debug_task<'a>(alloc: Global, matches: &ArgMatches<'a>) -> Result<Option<Task<'a>>, Error> {
-    let images = matches.get_strs("IMAGE").unwrap_or_default();
-    if let Some(message) = debug_conflict(matches, images.len()) {
-        return Err(refusal(alloc, &DEBUG, ErrorKind::ArgumentConflict, message)?);
-    }
-    if !matches.get_flag("live") {
-        return Ok(debug_one(matches, images));
-    }
-    match live_options(alloc, matches)? {
-        Some(options) => Ok(Some(Task::DebugLive(options))),
-        None => Err(too_many_images(alloc, &DEBUG)?),
-    }
-}
-
-/// What the arguments of the command `gdb` ask for. Options that do not go together are refused.
-fn gdb_task<'a>(alloc: Global, matches: &ArgMatches<'a>) -> Result<Option<Task<'a>>, Error> {
-    if let Some(message) = gdb_conflict(matches) {
-        return Err(refusal(alloc, &GDB, ErrorKind::ArgumentConflict, message)?);
-    }
-    match gdb_options(alloc, matches)? {
-        Some(options) => Ok(Some(Task::Gdb(options))),
-        None => Err(too_many_images(alloc, &GDB)?),
-    }
-}
-
-/// What a command and its arguments ask for. None where an argument is missing.
-pub fn task_of<'a>(
-    alloc: Global,
-    kind: CommandKind,
-    matches: &ArgMatches<'a>,
-) -> Result<Option<Task<'a>>, Error> {
-    match kind {
-        CommandKind::Replay => Ok(replay_task(matches)),
-        CommandKind::Picture => Ok(picture_task(matches)),
-        CommandKind::Page => Ok(page_task(alloc, matches)?),
-        CommandKind::Crashes => crashes_task(alloc, matches),
-        CommandKind::Explore => explore_task(alloc, matches),
-        CommandKind::Assemble => assemble_task(alloc, matches),
-        CommandKind::Check => Ok(matches.get_str("SOURCE").map(Task::Check)),
-        CommandKind::Image => image_task(alloc, matches),
-        CommandKind::Symbols => symbols_task(alloc, matches),
-        CommandKind::List => Ok(matches.get_str("IMAGE").map(Task::List)),
-        CommandKind::Diff => Ok(diff_task(matches)),
-        CommandKind::Debug => debug_task(alloc, matches),
-        CommandKind::Gdb => gdb_task(alloc, matches),
-        CommandKind::Disk => Ok(Some(Task::Disk(disk_task(alloc, matches)?))),
-        CommandKind::Run => run_task(alloc, matches),
-        CommandKind::Exec => exec_task(alloc, matches),
-    }
+    let paths = match given.row.name() {
+        "page" => given.texts("source"),
+        "crashes" | "explore" | "exec" => given.texts("PROGRAM"),
+        _ => given.texts("IMAGE"),
+    };
+    let paths = Vec::from_slice(alloc, paths)?;
+    Ok(task_of_paths(given, paths))
 }
