@@ -1,11 +1,14 @@
 #!/usr/bin/env python3
-"""Prints what a system has of a command beside the program: its man page, or how a shell completes its words.
+"""Prints what a system has of a command beside the program: its man page, how a shell completes its words, or a page's table of options.
 
     command-pages.py man|bash|zsh
+    command-pages.py table COMMAND
 
-All three are made of what `bench --help` and `bench COMMAND --help` print, as tools/command_words.py reads it; no build is needed. The man
-page is dated by SOURCE_DATE_EPOCH, if that is set."""
+All are made of what `bench --help` and `bench COMMAND --help` print, as tools/command_words.py reads it; no build is needed. The man
+page is dated by SOURCE_DATE_EPOCH, if that is set. The table also says what an option needs and excludes, by the rules of the command's row
+in crates/command_line/src/command.rt."""
 import os
+import re
 import sys
 import time
 
@@ -13,6 +16,8 @@ sys.dont_write_bytecode = True
 
 from command_words import TOP, Row, helps
 
+COMMANDS = f"{TOP}/crates/command_line/src/command.rt"
+RULE = re.compile(r'(Needs|Without|Excludes)\(\s*"([^"]*)",\s*(?:"([^"]*)"|(\w+))(?:,\s*"([^"]*)")?')
 # What each exit status says, in short; docs/SCRIPTS.md has all.
 STATUSES = (
     ("0", "Done."),
@@ -137,11 +142,48 @@ _bench "$@"
 """
 
 
+def bounds_of(command):
+    """Returns, by its name, the other options that each option of a command needs, and those that it is not used with."""
+    with open(COMMANDS, encoding="utf-8") as file:
+        text = file.read()
+    row = text.partition(f'says: "{command}: ')[2].partition("says: ")[0]
+    lists = dict(re.findall(r'const (\w+): &str = "([^"]*)"', text))
+    needs, excludes = {}, {}
+    for rule, one, other, listed, more in RULE.findall(row):
+        for first in one.split(" "):
+            for second in (other or lists[listed]).split(" "):
+                if rule == "Excludes":
+                    excludes.setdefault(first, []).append(second)
+                    excludes.setdefault(second, []).append(first)
+                else:
+                    needs.setdefault(first, []).append((second, more))
+    return needs, excludes
+
+
+def table(command, it):
+    """Returns a page's table of the options of a command."""
+    own = [row for row in it.rows["Options"] if row.name not in ("--explain", "--help")]
+    forms = {row.name.removeprefix("--"): f"`{row.form}`" for row in own} | {"IMAGE": "more than one image"}
+    needs, excludes = bounds_of(command)
+    lines = ["| Option | Default | Says | Needs, excludes |", "|---|---|---|---|"]
+    for row in own:
+        name, (says, _, default) = row.name.removeprefix("--"), row.about.partition(" [default: ")
+        told = [f"needs {forms[other]}{more}" for other, more in needs.get(name, ())]
+        if name in excludes:
+            told.append(f"not with {', '.join(forms[other] for other in excludes[name])}")
+        lines.append(f"| {forms[name]} | {default.removesuffix(']')} | {says} | {'; '.join(told)} |")
+    return "\n".join(lines) + "\n"
+
+
 def main(words):
     makers = {"man": man, "bash": bash, "zsh": zsh}
-    if len(words) != 1 or words[0] not in makers:
+    program, commands = helps()
+    if len(words) == 1 and words[0] in makers:
+        sys.stdout.write(makers[words[0]](program, commands))
+    elif len(words) == 2 and words[0] == "table" and words[1] in commands:
+        sys.stdout.write(table(words[1], commands[words[1]]))
+    else:
         sys.exit(__doc__)
-    sys.stdout.write(makers[words[0]](*helps()))
 
 
 if __name__ == "__main__":
