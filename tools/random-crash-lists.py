@@ -3,9 +3,10 @@
 
     random-crash-lists.py [RUNS] [SEED]
 
-A run (1,000 where no number is given) is a tape of steps.c: it makes, writes, empties, renames and removes files, and syncs. For each rule
-of commits, ordered, delayed and posix, the lists of files that `bench crashes` prints are those of the enumeration below, which shares no
-code with it: of each window, with as many cells apart, and also with at most 0, 1 and 2.
+A run (1,000 where no number is given) is a tape of steps.c: it makes, writes, empties, renames and removes files, prints, and syncs. For each
+rule of commits, ordered, delayed and posix, the lists of files that `bench crashes` prints are those of the enumeration below, which shares
+no code with it: of each window, with as many cells apart, and also with at most 0, 1 and 2. With `--recover` a recovery that opens all files
+is run once on each list with each promise: what was printed when no more changes were made than the list has.
 
 BENCH names the program, or else it is ./bench of this repository. At the first difference the tape is printed, and the status is 1."""
 import hashlib
@@ -13,12 +14,17 @@ import os
 import random
 import subprocess
 import sys
+import tempfile
 from itertools import product
 
 TOP = os.path.realpath(f"{os.path.dirname(os.path.realpath(__file__))}/..")
 BENCH = os.environ.get("BENCH", f"{TOP}/bench")
 IMAGE = f"{TOP}/examples/c/steps.image"
-SECTOR = 512
+SECTOR, NAMES = 512, "abcd"
+# A recovery that opens each file, and ends with status 0.
+OPENS = "".join(f"la a0, {name}\n li a1, 1\n li a2, 0\n li a7, 4\n ecall\n" for name in NAMES)
+LABELS = "".join(f'{name}: .ascii "{name}"\n' for name in NAMES)
+RECOVERY = f"_start: {OPENS} li a0, 0\n li a7, 1\n ecall\n .data\n{LABELS}"
 
 
 class State:
@@ -55,9 +61,10 @@ def states_of(base, changes):
     return states
 
 
-def sector(content, k):
-    """Returns the bytes of a cell."""
-    return content[k * SECTOR : (k + 1) * SECTOR].ljust(SECTOR, b"\0")
+def sector(content, k, length):
+    """Returns the bytes of a cell of a file of this length."""
+    end = min((k + 1) * SECTOR, length)
+    return content[k * SECTOR : end].ljust(end - k * SECTOR, b"\0")
 
 
 def count_sectors(size):
@@ -139,12 +146,11 @@ def contents_of(model, states, changes, number, common, most):
         parts = [(int(length != len(now)), b"")]
         for k in range(count_sectors(length)):
             moments = [t for t in range(len(states)) if allows(states, changes, number, k, size, t)]
-            values = {sector(states[t].data.get(number, b""), k) for t in moments}
-            parts = [(cost + (value != sector(now, k)), begun + value) for cost, begun in parts for value in sorted(values)]
+            values = {sector(states[t].data.get(number, b""), k, length) for t in moments}
+            parts = [(cost + (value != sector(now, k, length)), begun + value) for cost, begun in parts for value in sorted(values)]
             parts = [part for part in parts if part[0] <= most]
         for cost, content in parts:
             if cost <= most:
-                content = content[:length]
                 found[content] = min(cost, found.get(content, cost))
     return found
 
@@ -176,6 +182,8 @@ class Steps:
 
     def __init__(self):
         self.lines, self.state, self.base, self.changes, self.windows, self.made = [], State(), State(), [], [], 0
+        # What was printed, and each beginning of it, with the window when more was printed, or the window ended.
+        self.printed, self.promised = "", []
 
     def do(self, line, event):
         """Adds a step and its change."""
@@ -188,8 +196,19 @@ class Steps:
         self.lines.append("sync")
         self.end()
 
+    def promise(self):
+        """Adds what was printed by now."""
+        self.promised.append((self.base, list(self.changes), self.printed))
+
+    def say(self, letter):
+        """Adds a print."""
+        self.promise()
+        self.lines.append(f"say {letter}")
+        self.printed += letter
+
     def end(self):
         """Ends a window."""
+        self.promise()
         self.windows.append((self.base, self.changes))
         self.base, self.changes = self.state, []
 
@@ -226,8 +245,10 @@ def random_steps(rng):
         elif chance < 0.75:
             name = rng.choice(names)
             steps.do(f"gone {name}", ("remove", steps.state.names[name]))
-        elif chance < 0.88:
-            old, new = rng.choice(names), rng.choice("abcd")
+        elif chance < 0.8:
+            steps.say(rng.choice("xy"))
+        elif chance < 0.9:
+            old, new = rng.choice(names), rng.choice(NAMES)
             if old != new:
                 steps.do(f"name {old} {new}", ("rename", steps.state.names[old], new))
         else:
@@ -256,14 +277,25 @@ def wanted_of(model, windows, most):
     return wanted
 
 
-def lists_by_bench(tape, model, most):
-    """Returns the lists that bench prints, of each window apart, and how many cells of each are apart."""
-    words = [BENCH, "crashes", "--model", model, "--apart", str(most), "--tape", "-", IMAGE]
+def recovered(model, promised, most):
+    """Returns on how many disks a recovery is run, and how often."""
+    pairs = {(printed_of(files), printed) for base, changes, printed in promised for files in lists_of(model, base, changes, most)}
+    return f"{len({files for files, _printed in pairs})} disks, {len(pairs)} recoveries"
+
+
+def said_by_bench(tape, model, most, *more):
+    """Returns the lines that bench prints."""
+    words = [BENCH, "crashes", "--model", model, "--apart", str(most), *more, "--tape", "-", IMAGE]
     done = subprocess.run(words, input=tape, capture_output=True, check=False)
     if done.returncode != 0:
         sys.exit(f"{' '.join(words)}: status {done.returncode}: {done.stderr.decode()}\n{tape.decode()}")
+    return done.stdout.decode().splitlines()
+
+
+def lists_by_bench(tape, model, most):
+    """Returns the lists that bench prints, of each window apart, and how many cells of each are apart."""
     windows = {}
-    for line in done.stdout.decode().splitlines():
+    for line in said_by_bench(tape, model, most):
         if " files " in line:
             where, files = line.split(" files ", 1)
             event, apart = where.split()[3:6:2]
@@ -275,6 +307,10 @@ def main():
     """Compares random runs."""
     runs, seed = (int(word) for word in (sys.argv[1:] + ["1000", "1"][len(sys.argv) - 1 :])[:2])
     rng, lists = random.Random(seed), 0
+    folder = tempfile.TemporaryDirectory()
+    recovery = f"{folder.name}/opens.s"
+    with open(recovery, "w", encoding="ascii") as file:
+        file.write(RECOVERY)
     for run in range(runs):
         steps = random_steps(rng)
         tape = "".join(f"{line}\n" for line in steps.lines).encode()
@@ -282,6 +318,10 @@ def main():
         for most in (0, 1, 2, 99):
             wanted, found = wanted_of(model, steps.windows, most), lists_by_bench(tape, model, most)
             lists += sum(len(window) for window in found)
+            if found == wanted:
+                wanted = recovered(model, steps.promised, most)
+                found = said_by_bench(tape, model, most, "--jobs", "1", "--nested", "0", "--recover", recovery)[-1]
+                found = wanted if found.startswith(f"{wanted}, all") else found
             if found != wanted:
                 print(f"{model}, at most {most} apart, seed {seed} run {run}\n{tape.decode()}\nby bench: {found}\nhere: {wanted}")
                 return 1

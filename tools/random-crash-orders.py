@@ -4,10 +4,10 @@
     random-crash-orders.py [RUNS] [SEED] [JOBS]
 
 Two programs (100 pairs where no number is given) make 2 to 4 calls each, on two files, which may be there before, and a terminal: they make,
-write, rename and remove files, print, and sync. Each interleaving of their calls is a script, for which `bench crashes --model` prints what
-crashes leave. For each rule of commits, ordered, delayed and posix, these lists of files, each with what was printed by the end of its
-window, are those on which `bench crashes --all-orders --model` runs a recovery. Where the programs have a terminal each, a print may be made
-earlier there: a list then has to come with at least what was printed in its order.
+write, rename and remove files, print, and sync. Each interleaving of their calls, up to a print on terminal 0, a sync or the end, is a
+script, for which `bench crashes --model` prints what crashes leave. For each rule of commits, ordered, delayed and posix, the lists of files
+of the last window of each script, each with what it printed on terminal 0, are those on which `bench crashes --all-orders --model` runs a
+recovery.
 
 A list tells the window in which it is left by a file `k`: a third program counts there, by itself between two syncs, after each sync of a
 script. The recovery fails at once. So what is tried comes one by one, by `--part`.
@@ -95,7 +95,6 @@ class Pair:
     def __init__(self, rng, folder):
         self.folder = folder
         programs = [random_program(rng) for _ in range(2)]
-        # Where both write to one terminal, no print is made earlier.
         self.terminals = (0, rng.randrange(2))
         self.calls = [calls for _, calls in programs]
         self.programs = [self.line(terminal, words) for terminal, (words, _) in zip(self.terminals, programs)]
@@ -117,25 +116,34 @@ class Pair:
             file.write("\n".join(lines) + "\n")
         return subprocess.run([BENCH, "crashes", "--apart", "99", *words, path], capture_output=True, text=True)
 
-    def run_of(self, order):
-        """Returns the lines of an order after its set-up, and what was printed by the end of each window."""
+    def beginnings_of(self, order):
+        """Returns the beginnings of an order that end before a print on terminal 0, before a sync, or with it."""
+        left = [list(calls) for calls in self.calls]
+        for count, pid in enumerate(order):
+            what = left[pid - 1].pop(0)
+            if what == "sync" or what is not None and self.terminals[pid - 1] == 0:
+                yield tuple(order[:count])
+        yield tuple(order)
+
+    def run_of(self, calls):
+        """Returns the lines of calls in their order after the set-up, how many syncs are among them, and what they print."""
         lines = [f"turn {pid} {LIMIT}" for pid in (1, 2, COUNTER_PID)]
         step = lambda pid: [f"enter {pid}", f"turn {pid} {LIMIT}"]
         lines += step(COUNTER_PID)
-        left, printed, ends = [list(calls) for calls in self.calls], b"", []
-        for pid in order:
+        left, syncs, printed = [list(calls) for calls in self.calls], 0, b""
+        for pid in calls:
             what = left[pid - 1].pop(0)
             lines += step(pid)
             if what == "sync":
-                ends.append(printed)
+                syncs += 1
                 lines += step(COUNTER_PID) * 3
             elif what is not None and self.terminals[pid - 1] == 0:
                 printed += what
-        return lines, [*ends, printed]
+        return lines, syncs, printed
 
-    def left_by(self, model, order):
-        """Returns what crashes of an order leave: files, each list with what was printed by the end of its window."""
-        lines, printed = self.run_of(order)
+    def left_by(self, model, calls):
+        """Returns what crashes after these calls leave of the last window: files, each list with what was printed."""
+        lines, syncs, printed = self.run_of(calls)
         ran = self.bench([*self.programs, *self.counter, *self.files, *lines], "--model", model)
         *listed, last = ran.stdout.splitlines()
         if ran.returncode or not last.endswith(" lists, all"):
@@ -144,7 +152,8 @@ class Pair:
         for line in listed:
             files = line.split(" files ")[1].split(" ")
             mark = next(name for name in files if name.startswith("k:"))
-            found.add((frozenset(files) - {mark}, printed[self.marks[mark.split(":")[2]]]))
+            if self.marks[mark.split(":")[2]] == syncs:
+                found.add((frozenset(files) - {mark}, printed))
         return found
 
     def tried(self, model):
@@ -165,17 +174,12 @@ class Pair:
             found.add((files, shown.split("'")[1].encode()))
         raise AssertionError("too many lists")
 
-    def missing(self, wanted, found):
-        """Returns what is not tried of what crashes leave."""
-        if self.terminals[1] == 0:
-            return wanted - found
-        return {(files, printed) for files, printed in wanted if not any(files == it and more.startswith(printed) for it, more in found)}
-
     def difference(self, model, orders):
         """Returns how many lists are tried, and the difference for a rule, if there is one."""
-        wanted = set().union(*(self.left_by(model, order) for order in orders))
+        runs = {calls for order in orders for calls in self.beginnings_of(order)}
+        wanted = set().union(*(self.left_by(model, calls) for calls in runs))
         found = self.tried(model)
-        apart = [f"not tried: {it}" for it in self.missing(wanted, found)] + [f"left by no order: {it}" for it in found - wanted]
+        apart = [f"not tried: {it}" for it in wanted - found] + [f"left by no order: {it}" for it in found - wanted]
         return len(found), "\n".join([f"--model {model}", *self.programs, *self.files, *apart]) if apart else None
 
 

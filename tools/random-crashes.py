@@ -3,11 +3,14 @@
 
     random-crashes.py [RUNS] [SEED] [JOBS]
 
-A script (2,000 where no number is given) has one or two programs, which make, write, empty, rename and remove files, and lines that
-cut groups, complete writes or let them fail, drain, and crash. For each crash that `bench crashes` tries, `bench replay` runs the
+A script (2,000 where no number is given) has one or two programs, which make, write, empty, rename and remove files, and print, and lines
+that cut groups, complete writes or let them fail, drain, and crash. For each crash that `bench crashes` tries, `bench replay` runs the
 lines before it, a line `crash FILL` and a line `files`. Both are compared with a small model of files and of the disk below, which
-also knows the bytes of the files, and so the digests that `bench replay` does not print. `bench crashes --recover` has to try as many crashes,
-and to find as many disks.
+also knows the bytes of the files, and so the digests that `bench replay` does not print.
+
+`bench crashes --recover` has to try crashes too where terminal 0 shows more, which `bench replay` says. It has to find as many disks as the
+model, and to run a recovery that opens all files once on each disk with each promise. Of a recovery that fails, `bench replay` refuses no
+line of the scripts that are saved.
 
 BENCH names the program, or else it is ./bench of this repository. The last line says how many scripts and crashes were compared; at
 the first difference the script, and what came of it, is printed, and the status is 1."""
@@ -22,15 +25,21 @@ import tempfile
 TOP = os.path.realpath(f"{os.path.dirname(os.path.realpath(__file__))}/..")
 BENCH = os.environ.get("BENCH", f"{TOP}/bench")
 FILLS = ("00", "01", "7fff", "-")
-# A recovery that ends with status 0 on each disk.
-RECOVERY = ("--jobs", "1", "--nested", "0", "--recover", f"{TOP}/examples/sum.s")
 NAMES = (b"a", b"b", b"c.new", b"d:1")
+# A recovery that opens each file, and ends with status 0.
+OPENS = "".join(f"la a0, name{k}\n li a1, {len(name)}\n li a2, 0\n li a7, 4\n ecall\n" for k, name in enumerate(NAMES))
+LABELS = "".join(f'name{k}: .ascii "{name.decode()}"\n' for k, name in enumerate(NAMES))
+RECOVERY = f"_start: {OPENS} li a0, 0\n li a7, 1\n ecall\n .data\n{LABELS}"
+FAILS = "_start: li a0, 1\n li a7, 1\n ecall\n"
+RECOVER = ("--jobs", "1", "--nested", "0", "--recover")
 # The changes of a group, and the bytes of a piece of its record.
 GROUP, PIECE = 64, 4096
 FIRST_GATE = 64
 # Registers.
 S0, A0, A1, A2, A7 = 8, 10, 11, 12, 17
 OPEN, WRITE, CLOSE, UNLINK, RENAME, EXIT = 4, 2, 5, 12, 13, 1
+# The descriptor that stands for the terminal.
+TERMINAL = 1
 
 
 # Programs: a list of calls, each with its arguments. A call that takes a descriptor takes what the last open replied.
@@ -46,8 +55,10 @@ def random_calls(rng):
             for _ in range(rng.randint(0, 2)):
                 calls.append((WRITE, rng.randbytes(rng.choice((0, 1, 3, 20, 1024)))))
             calls.append((CLOSE,))
-        elif kind < 0.85:
+        elif kind < 0.75:
             calls.append((RENAME, rng.choice(NAMES), rng.choice(NAMES)))
+        elif kind < 0.9:
+            calls.append((WRITE, rng.choice((b"ok", b"\n")), TERMINAL))
         else:
             calls.append((UNLINK, rng.choice(NAMES)))
     return [*calls, (EXIT,)]
@@ -71,6 +82,8 @@ def arguments_of(call, place):
             return {A0: place, A1: len(name), A2: mode}, name
         case (2, content):
             return {A1: place, A2: len(content)}, content
+        case (2, content, descriptor):
+            return {A0: descriptor, A1: place, A2: len(content)}, content
         case (12, name):
             return {A0: place, A1: len(name)}, name
         case (13, name, other):
@@ -282,10 +295,13 @@ class Case:
 
     def __init__(self, rng):
         self.rng, self.programs = rng, [random_calls(rng) for _ in range(rng.choice((1, 1, 2)))]
-        self.lines = [f"program 0 {' '.join(f'{it:08x}' for it in words_of(calls))}" for calls in self.programs]
+        terminals = (0, rng.choice((0, 0, 1)))
+        self.lines = [f"program {terminal} {' '.join(f'{it:08x}' for it in words_of(calls))}" for terminal, calls in zip(terminals, self.programs)]
         # The same lines with the events of each drain in its place.
         self.events = list(self.lines)
         self.printed, self.outcomes, self.crashes, self.boot = [], set(), [], 1
+        # After how many lines a crash may come, whether the disk changed there, and what crashes leave then.
+        self.moments = []
         self.between, self.uncut = 0, 0
         self.model = Model(self.programs, [], FIRST_GATE)
         self.try_crashes()
@@ -305,7 +321,12 @@ class Case:
         self.between += model.cut_changes - model.groups
         self.uncut += len(model.changes) - model.cut_changes
 
+    def note_moment(self, is_of_disk):
+        left = [frozenset((it.name, it.content) for it in self.model.crash(fill)[0]) for fill in FILLS]
+        self.moments.append((len(self.events), is_of_disk, left))
+
     def try_crashes(self):
+        self.note_moment(True)
         model = self.model
         for fill in FILLS:
             files, _ = model.crash(fill)
@@ -360,6 +381,7 @@ class Case:
                 act(number)
                 self.lines.append(line)
                 self.events.append(line)
+                self.note_moment(False)
         elif kind < 0.9:
             self.of_disk()
         elif kind < 0.96:
@@ -380,6 +402,43 @@ def ran(folder, name, lines, *command):
     return done.stdout.splitlines()
 
 
+def shown_after(folder, case):
+    """Returns what terminal 0 has shown after each number of the script's lines, in all boots so far."""
+    setup = len(case.programs)
+    lines = case.events[:setup]
+    for line in case.events[setup:]:
+        lines += ["shown 0", line]
+    said = [it.split()[-1].replace("-", "") for it in ran(folder, "script", [*lines, "shown 0"], "replay") if it.startswith("shown 0 ")]
+    shown, earlier = {}, ""
+    for count, text in enumerate(said, setup):
+        if count > setup and case.events[count - 1].startswith("crash "):
+            earlier = shown[count - 1]
+        shown[count] = earlier + text
+    return shown
+
+
+def recovered(folder, case):
+    """Returns how the last line begins of a recovery that is run where disk or promise is new."""
+    crashes, files, pairs, last = 0, set(), set(), None
+    shown = shown_after(folder, case)
+    for count, is_of_disk, left in case.moments:
+        if is_of_disk or shown[count] != last:
+            crashes, last = crashes + len(left), shown[count]
+            files.update(left)
+            pairs.update((disk, last) for disk in left)
+    return crashes, len(files), len(pairs)
+
+
+def refused_of(folder, case, pairs):
+    """Returns the lines that are refused of the scripts of a recovery that fails on some disk with its promise."""
+    part = ("--part", f"{case.rng.randint(1, pairs)}/{pairs}", "--save", folder)
+    ran(folder, "script", case.lines, "crashes", *part, *RECOVER, f"{folder}/fails.s")
+    said = []
+    for name in ("run.script", "recovery.script"):
+        said += subprocess.run([BENCH, "replay", f"{folder}/{name}"], capture_output=True, text=True, check=True).stdout.splitlines()
+    return [line for line in said if line.startswith("refused")]
+
+
 def difference(seed):
     """Returns how many crashes of a script were compared, and what came out otherwise, if something did."""
     case = Case(random.Random(seed))
@@ -387,12 +446,18 @@ def difference(seed):
         came = ran(folder, "script", case.lines, "crashes")
         if came != case.printed:
             return 0, case.lines, case.printed, came
-        # A recovery is tried at the end of each boot too, and on each list of files once, whatever their order.
-        disks = len({tuple(sorted(it.split()[1:])) for it in case.outcomes})
-        wanted = f"{len(case.crashes) + len(FILLS) * case.boot} crashes, {disks} disks, "
-        came = ran(folder, "script", case.lines, "crashes", *RECOVERY)
-        if not came[-1].startswith(wanted):
+        with open(f"{folder}/opens.s", "w", encoding="ascii") as file:
+            file.write(RECOVERY)
+        with open(f"{folder}/fails.s", "w", encoding="ascii") as file:
+            file.write(FAILS)
+        crashes, disks, pairs = recovered(folder, case)
+        wanted = f"{crashes} crashes, {disks} disks, {pairs} recoveries"
+        came = ran(folder, "script", case.lines, "crashes", *RECOVER, f"{folder}/opens.s")
+        if came[-1].split(";")[0] != wanted:
             return 0, case.lines, [wanted], came
+        refused = refused_of(folder, case, pairs)
+        if refused:
+            return 0, case.lines, [], refused
         for lines, wanted in case.crashes:
             came = ran(folder, "script", lines, "replay")[-len(wanted) :]
             if came != wanted:

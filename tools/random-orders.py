@@ -7,7 +7,8 @@ A program (500 where no number is given) makes a pipe, forks one or two children
 makes a few calls: on two files, which may be there before, the pipe, the terminal and its children. Each interleaving of their calls is
 a script that `bench replay` runs. A call that waits is passed over there, and tried again at the end, until no process goes on: so each
 order in which the calls may come is among them. What the terminals show, with which statuses the processes ended or that they wait, and
-the files with their bytes are the outcomes. `bench explore` has to print just these, each with the fewest calls that lead to it.
+the files with their bytes are the outcomes. `bench explore` has to print just these, each with the fewest calls that lead to it. `bench
+replay` refuses no line of the scripts that it saves.
 
 A status is that which `replay --cone` tells of the event by which a process ended; it is asked once for each trace of a process. The
 bytes are what one more program writes after a crash that follows the order. It ends at once where its tape is empty, as it is for
@@ -16,6 +17,7 @@ bytes are what one more program writes after a crash that follows the order. It 
 BENCH names the program, or else it is ./bench of this repository. The last line says how many programs, orders and outcomes were
 compared. At the first difference the script is printed, with what came of it, and the status is 1."""
 import concurrent.futures
+import glob
 import hashlib
 import itertools
 import os
@@ -218,9 +220,13 @@ class Orders:
 
     def explored(self):
         """Returns the outcomes that `bench explore` prints, each with how many calls it has."""
-        ran = self.bench(["explore"], [])
+        ran = self.bench(["explore", "--save", self.folder], [])
         if ran.returncode:
             raise AssertionError(f"status {ran.returncode}: {ran.stderr}")
+        for path in glob.glob(f"{self.folder}/outcome-*.script"):
+            said = subprocess.run([BENCH, "replay", path], capture_output=True, text=True, check=True).stdout
+            if "\nrefused" in said:
+                raise AssertionError(f"{path}: {said}")
         found = {}
         for line in ran.stdout.splitlines()[:-1]:
             words = line.split(" ")

@@ -11,7 +11,7 @@ use std::collections::HashSet;
 #[derive(Drop)]
 pub struct Choices {
     pub number: u64,
-    /// For each moment of the length, and for each cell: of the moments with the same bytes the first.
+    /// For each moment of the length, and for each cell: of the moments with the same bytes up to the end the first.
     sizes: Vec<Vec<Vec<usize>>>,
 }
 
@@ -161,13 +161,15 @@ impl FileIn<'_> {
         }
     }
 
-    /// The moments as at which a cell may be, where the length is as at one: of those with the same bytes the first.
+    /// The moments as at which a cell may be, where the length is as at one: of those with the same bytes up to the end the first.
     fn moments(&self, alloc: Global, size: usize, cell: usize) -> Result<Vec<usize>, AllocError> {
+        let length = self.window.bytes_at(self.number, size).len();
         let mut moments = Vec::new(alloc);
         let mut known: HashSet<Vec<u8>> = HashSet::new(alloc);
         for moment in 0..self.window.moments() {
             if self.may_be(size, moment, cell) {
                 let bytes = self.window.bytes_at(self.number, moment);
+                let bytes = bytes.get(..length).unwrap_or(bytes);
                 if known.insert(cell_bytes(alloc, bytes, cell)?)? {
                     moments.push(moment)?;
                 }

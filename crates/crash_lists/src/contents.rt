@@ -62,10 +62,11 @@ fn extend(
 }
 
 impl FileAt<'_> {
-    /// The values of a cell that may be as at these moments.
+    /// The values of a cell of a file of this length that may be as at these moments.
     fn values(
         &self,
         alloc: Global,
+        length: usize,
         cell: usize,
         moments: &[usize],
     ) -> Result<Vec<CellValue>, AllocError> {
@@ -74,7 +75,7 @@ impl FileAt<'_> {
         for moment in moments {
             values.push(CellValue {
                 bytes: cell_bytes(alloc, window.bytes_at(number, *moment), cell)?,
-                is_apart: self.near.is_cell_apart(cell, *moment),
+                is_apart: self.near.is_cell_apart(length, cell, *moment),
             })?;
         }
         Ok(values)
@@ -104,7 +105,7 @@ impl FileAt<'_> {
             if contents.is_empty() {
                 break;
             }
-            let values = self.values(alloc, cell, moments.as_slice())?;
+            let values = self.values(alloc, length, cell, moments.as_slice())?;
             let (longer, cuts) = extend(alloc, contents.as_slice(), values.as_slice(), most)?;
             contents = longer;
             is_cut = is_cut || cuts;

@@ -280,12 +280,13 @@ impl<'a> Enumeration<'a> {
             return Ok(());
         };
         let near = self.file_near(file.number, listed.cells.common);
+        let length = bytes_at(&listed.files, place).len();
         let name = String::from_utf8_lossy(alloc, name_at(&listed.files, place))?;
         if near.is_length_apart(moments.size) {
             apart.push(format!(in alloc; "the length of {name}")?)?;
         }
         for (cell, moment) in moments.cells.iter().enumerate() {
-            if near.is_cell_apart(cell, *moment) {
+            if near.is_cell_apart(length, cell, *moment) {
                 let begin = cell.saturating_mul(CELL);
                 let last = begin.saturating_add(CELL.saturating_sub(1));
                 apart.push(format!(in alloc; "bytes {begin} to {last} of {name}")?)?;

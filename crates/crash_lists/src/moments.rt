@@ -1,6 +1,7 @@
 //! As at which moments a file of a list has its length and its cells.
-ghost use Rattle.std.specs.Prelude.{◌≡◌, ◌*◌, ◌<◌, ℕ, IfOk, IfSome, length, slice_index, true, vec_len};
-ghost use Rattle.crash_lists.specs.Rules.{AreMoments, IsCellAt, LengthMayBe, moment_of};
+ghost use Rattle.std.specs.Prelude.{◌≡◌, ◌*◌, ◌+◌, ◌<◌, ℕ, IfOk, IfSome, false, length, min, slice_index, true, vec_len};
+ghost use Rattle.crash_lists.specs.Effects.{AreSame};
+ghost use Rattle.crash_lists.specs.Rules.{AreMoments, IsCellAt, LengthMayBe, bytes_at as bytes_in, moment_of};
 
 use crate::choices::FileIn;
 use crate::effects::first_change;
@@ -51,15 +52,19 @@ impl FileNear<'_> {
         window.bytes_at(number, size).len() != window.bytes_at(number, self.common).len()
     }
 
-    /// Whether a cell does not have the same bytes at a moment as at the common one.
-    pub fn is_cell_apart(&self, cell: usize, moment: usize) -> bool {
+    /// Whether a cell of a file of this length does not have the same bytes at a moment as at the common one. Bytes past the end do not count.
+    pub fn is_cell_apart(&self, length: usize, cell: usize, moment: usize) -> bool
+        ensures same { 512 * cell < length → result ≡ false → AreSame (bytes_in self.now.file.window.now.moments.items self.now.file.number self.now.common) (bytes_in self.now.file.window.now.moments.items self.now.file.number moment) (512 * cell) (min (512 * cell + 512) length) }
+        ensures apart { 512 * cell < length → result ≡ true → AreSame (bytes_in self.now.file.window.now.moments.items self.now.file.number self.now.common) (bytes_in self.now.file.window.now.moments.items self.now.file.number moment) (512 * cell) (min (512 * cell + 512) length) → ⊥ }
+    {
         let FileIn { window, number, .. } = self.file;
         let begin = cell.saturating_mul(CELL);
+        let end = begin.saturating_add(CELL).min(length);
         let (now, then) = (
             window.bytes_at(number, self.common),
             window.bytes_at(number, moment),
         );
-        first_change(now, then, begin, begin.saturating_add(CELL)).is_some()
+        first_change(now, then, begin, end).is_some()
     }
 
     /// Whether a cell of these bytes may be as at a moment, where the length is as at another.
@@ -90,7 +95,7 @@ impl FileNear<'_> {
         let mut found = None;
         for moment in 0..count {
             if self.gives(size, bytes, cell, moment) {
-                if !self.is_cell_apart(cell, moment) {
+                if !self.is_cell_apart(bytes.len(), cell, moment) {
                     return Some(moment);
                 }
                 if found.is_none() {
@@ -121,11 +126,11 @@ impl FileNear<'_> {
         Ok(Some(cells))
     }
 
-    /// How many cells are apart, and the length.
-    fn count_apart(&self, size: usize, cells: &[usize]) -> u32 {
+    /// How many cells are apart of a file of this length, and the length.
+    fn count_apart(&self, length: usize, size: usize, cells: &[usize]) -> u32 {
         let mut apart = u32::from(self.is_length_apart(size));
         for (cell, moment) in cells.iter().enumerate() {
-            if self.is_cell_apart(cell, *moment) {
+            if self.is_cell_apart(length, cell, *moment) {
                 apart = apart.saturating_add(1);
             }
         }
@@ -152,7 +157,7 @@ impl FileNear<'_> {
         let Some(cells) = self.moments_of_cells(alloc, size, bytes)? else {
             return Ok(None);
         };
-        if self.count_apart(size, cells.as_slice()) > most {
+        if self.count_apart(length, size, cells.as_slice()) > most {
             return Ok(None);
         }
         Ok(Some(FileMoments {

@@ -69,6 +69,13 @@ impl Window {
         Ok(())
     }
 
+    /// How many changes were made since the boot, by the last moment.
+    pub fn made(&self) -> u64
+        ensures { result ≡ self.now.made }
+    {
+        self.made
+    }
+
     /// How many changes there are. The moments are 0 to this.
     pub fn changes(&self) -> usize
         ensures { result ≡ vec_len self.now.moments - 1 }

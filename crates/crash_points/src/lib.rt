@@ -19,7 +19,7 @@ mod taker;
 mod told;
 
 pub use course::{Course, Playing, RunEnd, play, play_some, play_to_end};
-pub use digests::{digest_of, digest_of_files};
+pub use digests::{digest_of, digest_of_files, digest_of_window};
 pub use laws::{crashes_elsewhere_leave_the_files, files_stand_before_the_gate};
 pub use mirror::{Crashed, Mirror};
 pub use point::{CrashPlace, CrashPoint, Telling};

@@ -38,7 +38,8 @@ fn is_joined(whole: &[u8], first: &[u8], second: &[u8]) -> bool
 }
 
 impl Promise {
-    fn new(alloc: Global, earlier: &[u8], now: &[u8]) -> Result<Promise, AllocError>
+    /// What earlier boots showed, and then these bytes.
+    pub fn new(alloc: Global, earlier: &[u8], now: &[u8]) -> Result<Promise, AllocError>
         ensures { IfOk result (λ promise. promise ≡ earlier.now ++ now.now) }
     {
         let mut shown = Vec::from_slice(alloc, earlier)?;

@@ -2,7 +2,7 @@
 use crate::verdict::{SearchedStates, Trial, Untried, Verdict, print_tested, verdict_of};
 use crash_lists::Window;
 use crash_points::{CrashPlace, Promise, Stop, Taker, Told};
-use crash_visits::{Bound, Closed, WindowLists};
+use crash_visits::{Bound, Closed, Promised, WindowLists};
 use exec_runs::Ending;
 use faults::Fault;
 use files::FileList;
@@ -22,7 +22,7 @@ pub struct OrderState<'a> {
     pub files: &'a FileList,
     /// What terminal 0 shows then.
     pub shown: &'a [u8],
-    /// By another rule than bench's, the window that ends there, if one does.
+    /// By another rule than bench's, the files since the last sync, if a crash is to be tried there.
     pub window: Option<Window>,
 }
 
@@ -37,10 +37,9 @@ struct Numbering<'a, R, E> {
     numbered: Vec<Vec<u32>>,
 }
 
-/// What runs the recovery on what crashes leave in states to which orders of calls lead. A search shows it each state. By bench's rule
-/// these are the files of the state: what is left by a crash that keeps the committed changes alone, beside what was shown, is the files of
-/// some state, with at least that. By another rule they are the lists of the window that ends there: it has all that a crash may leave since
-/// its sync, and by then most was printed.
+/// What runs the recovery on what crashes leave in states to which orders of calls lead. A search shows it each state. By bench's rule a
+/// crash leaves the files of the state, and what it shows: what any crash leaves, some state has. By another rule it leaves the lists that
+/// are allowed since the last sync, and what was printed by then.
 #[derive(Drop)]
 pub struct Orders<'a, R, E> {
     alloc: Global,
@@ -184,8 +183,8 @@ impl<'a, R: Files + AllocGlobal, E: Write> Orders<'a, R, E> {
         }
     }
 
-    /// Takes a state: its files, or by another rule than bench's the window that ends there, if one does. The recovery is run on what it took,
-    /// if that is enough by now. Threads share the work.
+    /// Takes a state: its files, or by another rule than bench's its window, if it has one. The recovery is run on what it took, if that is
+    /// enough by now. Threads share the work.
     pub fn take<T: Threads + Sync>(&mut self, rt: &T, state: OrderState<'_>) -> Result<(), Stop> {
         let OrderState {
             calls,
@@ -204,11 +203,9 @@ impl<'a, R: Files + AllocGlobal, E: Write> Orders<'a, R, E> {
         let Some(window) = window else {
             return Ok(());
         };
-        let closed = Closed {
-            place,
-            window,
-            promise,
-        };
+        let mut promised = Vec::new(self.alloc);
+        promised.push(Promised { place, promise })?;
+        let closed = Closed { window, promised };
         lists.try_window(rt, &closed, &mut self.numbering)
     }
 

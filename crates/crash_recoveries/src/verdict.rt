@@ -124,7 +124,7 @@ fn run_by_rule<R: Files + AllocGlobal + Threads + Sync, T: Taker>(
     taker: &mut T,
 ) -> TriedRun {
     let Subject { setup, course } = subject;
-    let mut trier = WindowTrier::new(rt, setup, rule);
+    let mut trier = WindowTrier::new(rt, setup, rule, true);
     let (done, core) = parted(trier.run(course, taker));
     let untried = Untried::Past(Some(trier.bound()));
     TriedRun {
@@ -324,9 +324,9 @@ fn finish<R: Files + AllocGlobal + Threads + Sync, O: Write, E: Write>(
     Ok(Tested { verdict, core })
 }
 
-/// Runs what is set up, and tries crashes as `explore` does, and one more at the end. On each disk that a crash leaves the recovery is
+/// Runs what is set up, and tries crashes as `explore` does, and where terminal 0 shows more. On each disk that a crash leaves the recovery is
 /// run, once with each promise, and again after its own crashes. By a rule, if one is given, the disks are those that this rule allows
-/// between two syncs, and what was printed is promised. Prints the first recovery that fails, which ends all, and how much was tried. Each
+/// between two syncs of the changes so far, and what was printed by then is promised. Prints the first recovery that fails, which ends all, and how much was tried. Each
 /// disk and promise has its turn, whatever comes of the others: what is printed is the same, however many threads run recoveries. How far
 /// it has come is told to `err`, if that is wanted.
 pub fn try_recoveries<R: Files + AllocGlobal + Threads + Sync, O: Write, E: Write>(

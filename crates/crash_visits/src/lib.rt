@@ -14,5 +14,5 @@ mod windows;
 pub use listing::explore_by;
 pub use outcomes::explore;
 pub use trying::Trier;
-pub use window_lists::{Bound, Closed, Rule, WindowLists};
+pub use window_lists::{Bound, Closed, Promised, Rule, WindowLists};
 pub use windows::WindowTrier;

@@ -57,7 +57,7 @@ pub fn explore_by<R: Files + AllocGlobal + Threads + Sync, O: Write>(
         lines: HashSet::new(rt.alloc()),
         out,
     };
-    let mut trier = WindowTrier::new(rt, setup, rule);
+    let mut trier = WindowTrier::new(rt, setup, rule, false);
     match trier.run(course, &mut lister) {
         Ok(end) => {
             let (count, bound) = (lister.lines.len(), trier.bound());

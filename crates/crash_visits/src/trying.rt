@@ -62,16 +62,21 @@ impl<'a, R: Files + AllocGlobal> Trier<'a, R> {
         played
     }
 
-    /// The promise of the run so far. Where nothing more was shown it is that of the last moment, and what crashes left then is known.
+    /// The promise of the last moment, if nothing more is shown now.
+    fn same_promise(&self, core: &Core) -> Option<&Arc<Promise>> {
+        match &self.promise {
+            Some(promise) if promise.is_of(self.shown.as_slice(), core) => Some(promise),
+            _ => None,
+        }
+    }
+
+    /// The promise of the run so far. Where it is that of the last moment, what crashes left then is known.
     fn promise(&mut self, core: &Core) -> Result<Arc<Promise>, Stop> {
-        let shown = self.shown.as_slice();
-        if let Some(promise) = &self.promise {
-            if promise.is_of(shown, core) {
-                return Ok(Arc::try_clone(promise)?);
-            }
+        if let Some(promise) = self.same_promise(core) {
+            return Ok(Arc::try_clone(promise)?);
         }
         let alloc = self.rt.alloc();
-        let promise = Arc::new(alloc, Promise::of(alloc, shown, core)?)?;
+        let promise = Arc::new(alloc, Promise::of(alloc, self.shown.as_slice(), core)?)?;
         self.promise = Some(Arc::try_clone(&promise)?);
         self.mirror.forget_last();
         Ok(promise)
@@ -98,12 +103,6 @@ impl<'a, R: Files + AllocGlobal> Trier<'a, R> {
         self.mirror = Mirror::new(self.rt.alloc());
         self.try_crashes(&core)?;
         Ok(core)
-    }
-
-    /// A run ends: crashes are tried there too, where all is shown.
-    fn end(&mut self, core: &Core) -> Result<(), Stop> {
-        self.passed_over.end(core);
-        self.try_crashes(core)
     }
 }
 
@@ -140,7 +139,7 @@ impl<R: Files + AllocGlobal + Threads + Sync> Trier<'_, R> {
         for _ in 0..u64::MAX {
             let ending = playing.step(self)?;
             if let (Some(_), Some(core)) = (ending, playing.core()) {
-                self.end(core)?;
+                self.passed_over.end(core);
             }
             self.hand_out_all(taker)?;
             if let Some(ending) = ending {
@@ -158,19 +157,20 @@ impl<R: Files + AllocGlobal> Visitor for Trier<'_, R> {
         Ok(self.mirror.before(core, event)?)
     }
 
-    /// Tries crashes after each event of the disk. No other event changes the disk or its writes in flight.
+    /// Tries crashes after each event of the disk, and where terminal 0 shows more. No other event changes the disk, its writes in flight or
+    /// what was promised.
     fn after(&mut self, core: &Core, event: Event, answer: Answer) -> Result<(), Stop> {
         let line = EventText(event);
         writeln!(self.played, "{line}")?;
         self.passed_over.after(answer);
-        match process_of(event) {
-            Some(_) => Ok(()),
-            None => self.try_crashes(core),
+        if process_of(event).is_some() && self.same_promise(core).is_some() {
+            return Ok(());
         }
+        self.try_crashes(core)
     }
 
     fn crash(&mut self, core: Core, fill: &[u8]) -> Result<Core, Stop> {
-        self.end(&core)?;
+        self.passed_over.end(&core);
         let digits = bytes_text(self.rt.alloc(), fill)?;
         writeln!(self.played, "crash {digits}")?;
         self.shown.extend_from_slice(core.shown(0))?;

@@ -4,9 +4,11 @@ ghost use Rattle.std.specs.HashSet.{hash_set_len};
 
 use crate::deeds::deeds_of;
 use crash_lists::{CrashModel, Enumeration, Listed, Window};
-use crash_points::{CrashPlace, ListedChanges, Promise, Stop, Taker, Told, digest_of_files};
+use crash_points::{
+    CrashPlace, ListedChanges, Promise, Stop, Taker, Told, digest_of_files, digest_of_window,
+};
 use disk_model::MOST_FILES;
-use std::alloc::Global;
+use std::alloc::{AllocError, Global};
 use std::collections::HashSet;
 use std::fmt;
 use std::thread::Threads;
@@ -57,13 +59,18 @@ impl fmt::Display for Bound {
     }
 }
 
-/// A window that has ended, with all that was printed by then.
+/// What was printed by the time of a crash.
+#[derive(Drop)]
+pub struct Promised {
+    pub place: CrashPlace,
+    pub promise: Promise,
+}
+
+/// A window, with what was printed while its last change was the last one.
 #[derive(Drop)]
 pub struct Closed {
-    /// Where it ended.
-    pub place: CrashPlace,
     pub window: Window,
-    pub promise: Promise,
+    pub promised: Vec<Promised>,
 }
 
 /// The lists of a window, and what each of its changes does.
@@ -81,11 +88,13 @@ pub struct WindowLists {
     rule: Rule,
     /// Whether lists were left out, in which more cells are apart.
     is_cut: bool,
-    /// How many lists of this window were handed out.
+    /// How many lists of this window were handed out, with a promise each.
     lists: u64,
     is_full: bool,
     /// The digests of the lists that have more files than a disk.
     too_many: HashSet<String>,
+    /// Those of the windows with their promises.
+    windows: HashSet<String>,
 }
 
 impl WindowLists {
@@ -98,6 +107,7 @@ impl WindowLists {
             lists: 0,
             is_full: false,
             too_many: HashSet::new(alloc),
+            windows: HashSet::new(alloc),
         }
     }
 
@@ -120,15 +130,16 @@ impl WindowLists {
         }
     }
 
-    /// Hands out a list of files, if a disk may hold it.
+    /// Hands out a list of files with each promise, if a disk may hold it.
     fn hand_out<T: Taker>(
         &mut self,
         closed: &Closed,
         changes: ListedChanges<'_>,
         taker: &mut T,
     ) -> Result<(), Stop> {
-        self.lists = self.lists.saturating_add(1);
         let Listed { files, apart, .. } = changes.listed;
+        let count = closed.promised.len() as u64;
+        self.lists = self.lists.saturating_add(count);
         if files.count() > MOST_FILES {
             let digest = digest_of_files(self.alloc, files)?;
             self.too_many.insert(digest)?;
@@ -138,12 +149,19 @@ impl WindowLists {
             calls: None,
             changes: Some(changes),
         };
-        taker.take(
-            files,
-            &closed.promise,
-            closed.place.with_apart(*apart),
-            told,
-        )
+        for Promised { place, promise } in &closed.promised {
+            taker.take(files, promise, place.with_apart(*apart), told)?;
+        }
+        Ok(())
+    }
+
+    /// Whether a window is new with its promises.
+    fn is_new(&mut self, closed: &Closed) -> Result<bool, AllocError> {
+        let mut key = digest_of_window(self.alloc, &closed.window)?;
+        for promised in &closed.promised {
+            key.push_str(promised.promise.digest.as_str())?;
+        }
+        Ok(self.windows.insert(key)?)
     }
 
     /// Hands out the lists near a common moment in which so many cells are apart. Whether there are others, with more.
@@ -188,13 +206,16 @@ impl WindowLists {
         Ok(is_cut)
     }
 
-    /// Hands out what a crash may leave in a window, by rising number of cells apart. Threads may share the work.
+    /// Hands out what a crash may leave in a window, by rising number of cells apart, if that was not done before. Threads may share the work.
     pub fn try_window<R: Threads + Sync, T: Taker>(
         &mut self,
         rt: &R,
         closed: &Closed,
         taker: &mut T,
     ) -> Result<(), Stop> {
+        if !self.is_new(closed)? {
+            return Ok(());
+        }
         self.lists = 0;
         let window = ToldWindow {
             closed,

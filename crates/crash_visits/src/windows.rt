@@ -3,17 +3,22 @@ ghost use Rattle.std.specs.Prelude.{◌≡◌, true, IfSome, Some, None, if◌th
 ghost use Rattle.std.specs.HashSet.{hash_set_len};
 ghost use Rattle.disk_model.specs.Storage.{is_quiet};
 
-use crate::window_lists::{Bound, Closed, Rule, WindowLists};
+use crate::window_lists::{Bound, Closed, Promised, Rule, WindowLists};
 use crash_lists::Window;
-use crash_outcomes::{moment_of, stands_at_sync};
+use crash_outcomes::{Moment, moment_of, stands_at_sync};
 use crash_points::{Course, CrashPlace, Playing, Promise, RunEnd, Stop, Taker};
 use exec_runs::Ending;
 use kernel::{Answer, Core, Event, SimDisk};
 use scripts::{EventText, Setup, Visitor, bytes_text};
+use std::alloc::AllocError;
 use std::rt::Files;
 use std::thread::Threads;
 
-/// The visitor of a run that finds, at each sync and at the end, the disks that a crash may leave by a rule since the last sync.
+/// The most promises that are kept until they are handed out.
+const MOST_TOGETHER: usize = 256;
+
+/// The visitor of a run that finds, at each sync and at the end, the disks that a crash may leave by a rule since the last sync. Where promises
+/// count it finds these too before terminal 0 gets more, with what it had got by then.
 #[derive(Drop)]
 pub struct WindowTrier<'a, R> {
     rt: &'a R,
@@ -26,6 +31,11 @@ pub struct WindowTrier<'a, R> {
     shown: Vec<u8>,
     /// The files since the last sync.
     window: Option<Window>,
+    has_promises: bool,
+    /// How many bytes terminal 0 had got by the last event.
+    printed: usize,
+    /// What terminal 0 had got since the last change, each time before it got more.
+    promised: Vec<Promised>,
     /// Whether the next event is a sync.
     is_sync: bool,
     /// Windows whose lists were not handed out yet.
@@ -43,8 +53,13 @@ fn is_sync(core: &Core, event: Event) -> bool {
 }
 
 impl<'a, R: Files + AllocGlobal> WindowTrier<'a, R> {
-    /// Before the first boot.
-    pub fn new(rt: &'a R, setup: &'a mut Setup, rule: Rule) -> WindowTrier<'a, R> {
+    /// Before the first boot. Promises count or not.
+    pub fn new(
+        rt: &'a R,
+        setup: &'a mut Setup,
+        rule: Rule,
+        has_promises: bool,
+    ) -> WindowTrier<'a, R> {
         WindowTrier {
             rt,
             setup,
@@ -52,6 +67,9 @@ impl<'a, R: Files + AllocGlobal> WindowTrier<'a, R> {
             played: String::new(rt.alloc()),
             shown: Vec::new(rt.alloc()),
             window: None,
+            has_promises,
+            printed: 0,
+            promised: Vec::new(rt.alloc()),
             is_sync: false,
             closed: Vec::new(rt.alloc()),
             lists: WindowLists::new(rt.alloc(), rule),
@@ -75,15 +93,57 @@ impl<'a, R: Files + AllocGlobal> WindowTrier<'a, R> {
         played
     }
 
+    /// Adds a promise since the last change.
+    fn promise(&mut self, moment: Moment, promise: Promise) -> Result<(), AllocError> {
+        self.promised.push(Promised {
+            place: CrashPlace::Apart(moment, 0),
+            promise,
+        })?;
+        Ok(())
+    }
+
+    /// The promises since the last change, with this window.
+    fn hand_over(&mut self, window: Window) -> Result<(), AllocError> {
+        let mut promised = Vec::new(self.rt.alloc());
+        promised.append(&mut self.promised)?;
+        self.closed.push(Closed { window, promised })?;
+        Ok(())
+    }
+
+    /// The same, with the window so far, if there are promises.
+    fn hand_over_so_far(&mut self) -> Result<(), AllocError> {
+        match &self.window {
+            Some(window) if !self.promised.is_empty() => {
+                self.hand_over(window.try_clone(self.rt.alloc())?)
+            }
+            _ => Ok(()),
+        }
+    }
+
     /// Ends the window, with all that was printed.
     fn close(&mut self, core: &Core) -> Result<(), Stop> {
         if let Some(window) = self.window.take() {
-            self.closed.push(Closed {
-                place: CrashPlace::Apart(moment_of(self.boots, core), 0),
-                window,
-                promise: Promise::printed(self.rt.alloc(), self.shown.as_slice(), core)?,
-            })?;
+            let promise = Promise::printed(self.rt.alloc(), self.shown.as_slice(), core)?;
+            self.promise(moment_of(self.boots, core), promise)?;
+            self.hand_over(window)?;
         }
+        Ok(())
+    }
+
+    /// Adds what terminal 0 had got before an event that gave it more, if it is one and promises count.
+    fn note_print(&mut self, core: &Core) -> Result<(), Stop> {
+        let printed = core.written(0);
+        if self.has_promises && self.printed < printed.len() {
+            let before = printed.get(..self.printed).unwrap_or(printed);
+            let promise = Promise::new(self.rt.alloc(), self.shown.as_slice(), before)?;
+            let moment = moment_of(self.boots, core);
+            let event = moment.event.saturating_sub(1);
+            self.promise(Moment { event, ..moment }, promise)?;
+            if self.promised.len() >= MOST_TOGETHER {
+                self.hand_over_so_far()?;
+            }
+        }
+        self.printed = printed.len();
         Ok(())
     }
 
@@ -96,8 +156,16 @@ impl<'a, R: Files + AllocGlobal> WindowTrier<'a, R> {
 
     /// Adds the change to the window that the event made, if it made one.
     fn note(&mut self, core: &Core) -> Result<(), Stop> {
+        let made = core.changes();
+        let is_new = match &self.window {
+            Some(window) => window.made() != made,
+            None => false,
+        };
+        if is_new {
+            self.hand_over_so_far()?;
+        }
         if let Some(window) = &mut self.window {
-            window.note(core.changes(), core.tables().files)?;
+            window.note(made, core.tables().files)?;
         }
         Ok(())
     }
@@ -108,6 +176,7 @@ impl<'a, R: Files + AllocGlobal> WindowTrier<'a, R> {
     {
         let core = self.setup.boot(self.rt, left)?;
         self.boots = self.boots.saturating_add(1);
+        self.printed = 0;
         self.open(&core)?;
         Ok(core)
     }
@@ -158,6 +227,7 @@ impl<R: Files + AllocGlobal> Visitor for WindowTrier<'_, R> {
             self.close(core)?;
             return self.open(core);
         }
+        self.note_print(core)?;
         self.note(core)
     }
 

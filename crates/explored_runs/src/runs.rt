@@ -111,12 +111,12 @@ fn alone(alloc: Global, reached: Reached<Vec<u32>>) -> Result<Vec<Reached<Vec<u3
     Ok(all)
 }
 
-/// The state of a run after which this comes, if it is visited. It has its window where that ends there.
-fn as_it_ends(visited: Option<VisitedState>, is_at_sync: bool, next: &Next) -> Option<VisitedState>
+/// The state of a run after which this comes, if it is visited. It keeps its window where no run goes on, or where it is to be kept.
+fn as_it_ends(visited: Option<VisitedState>, is_kept: bool, next: &Next) -> Option<VisitedState>
     ensures { (visits : Visits) (ps : List ℕ) (s : Seen) → IsVisitOf visits ps s visited → IsVisitOf visits ps s result }
 {
     match visited {
-        Some(state) => Some(state.with_window_if(is_at_sync || matches!(next, Next::Over(_)))),
+        Some(state) => Some(state.with_window_if(is_kept || matches!(next, Next::Over(_)))),
         None => None,
     }
 }
@@ -127,8 +127,15 @@ impl Runs<'_> {
         ensures { IfOk result (IsRunOf self.now []) }
     {
         let core = self.programs.core(self.alloc)?;
+        let has_promises = self.visits != Visits::Nothing;
         let keeps_windows = self.visits == Visits::Windows;
-        let replay = Replay::begin(self.alloc, core, self.instructions, keeps_windows)?;
+        let replay = Replay::begin(
+            self.alloc,
+            core,
+            self.instructions,
+            has_promises,
+            keeps_windows,
+        )?;
         Ok(replay)
     }
 
@@ -186,11 +193,11 @@ impl Runs<'_> {
         ensures { IfOk result (λ after. IsAfter self.now calls.now after) }
     {
         let visited = self.visited(calls, &replay)?;
-        let is_at_sync = replay.is_at_sync();
+        let is_kept = self.visits == Visits::Windows && replay.is_at_sync_or_print();
         let stands = replay.all_stand();
         let next = self.next(calls, replay)?;
         Ok(After {
-            visited: as_it_ends(visited, is_at_sync, &next),
+            visited: as_it_ends(visited, is_kept, &next),
             stands,
             next,
         })

@@ -26,13 +26,13 @@ pub fn lines_of(alloc: Global, events: &[Event]) -> Result<String, AllocError> {
 }
 
 /// A script that does a run, has those that wait try their calls again, commits all, and asks what was shown. The set-up lines come
-/// first.
+/// first. None of its lines is refused: a process that runs on is not asked to enter.
 pub fn script_of(alloc: Global, setup: &[u8], replay: &Replay) -> Result<Vec<u8>, Fault> {
     let mut text = Vec::from_slice(alloc, setup)?;
     let lines = lines_of(alloc, replay.core.history())?;
     text.extend_from_slice(lines.as_bytes())?;
     for pid in 1..=replay.last_process() {
-        if replay.core.tables().processes.status(pid).is_none() {
+        if replay.is_to_enter(pid) {
             writeln!(text, "enter {pid}")?;
         }
     }

@@ -13,9 +13,10 @@ use std::alloc::{AllocError, Global};
 #[derive(Clone, Copy, PartialEq, Eq)]
 pub enum Visits {
     Nothing,
-    /// Each state.
+    /// Each state. What terminal 0 shows there counts, so no write to it is private.
     States,
-    /// Each state, with the window that ends there, if one does. So the search keeps windows, and states in which they differ are two.
+    /// The same, with the files since the last sync where they are to be tried. So the search keeps windows, and states in which they differ are
+    /// two; nor is a sync private.
     Windows,
 }
 
@@ -28,12 +29,13 @@ pub struct VisitedState {
     pub files: FileList,
     /// What terminal 0 shows then: all that was printed there.
     pub shown: Vec<u8>,
-    /// Where windows are visited, the files since the last sync, if some process stands at a sync, or none can go on.
+    /// Where windows are visited, the files since the last sync, if some process stands at a sync or at a write to terminal 0, or none can go
+    /// on.
     pub window: Option<Window>,
 }
 
 impl VisitedState {
-    /// The state of a run of these calls, which were replayed. It has its window, whether that ends or not.
+    /// The state of a run of these calls, which were replayed. It has its window, if windows are kept.
     pub fn of(alloc: Global, calls: &[u32], replay: &Replay) -> Result<VisitedState, AllocError>
         ensures { IfOk result (IsVisited calls.now (seen_of replay.now.core)) }
     {
@@ -46,11 +48,11 @@ impl VisitedState {
         })
     }
 
-    /// The same, with its window only where that ends.
-    pub fn with_window_if(mut self, ends: bool) -> VisitedState
+    /// The same, with its window only where that is to be tried.
+    pub fn with_window_if(mut self, is_tried: bool) -> VisitedState
         ensures { (ps : List ℕ) (s : Seen) → IsVisited ps s self → IsVisited ps s result }
     {
-        if !ends {
+        if !is_tried {
             self.window = None;
         }
         self

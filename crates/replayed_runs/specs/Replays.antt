@@ -1,12 +1,13 @@
 -- A core whose calls are replayed, as a run that is seen.
-use Rattle.std.specs.Prelude.{ℕ, Bool, true, false, List}
+use Rattle.std.specs.Prelude.{◌≡◌, ℕ, Bool, true, false, IfSome, List}
 use Rattle.kernel_model.specs.Answers.{Kernel}
 use Rattle.kernel_model.specs.World.{Boot}
 use Rattle.kernel_model.specs.declared.answer.Answer.{Answer}
 use Rattle.kernel_model.specs.declared.answer.Answer.TheVariants as answer
 use Rattle.kernel_model.specs.declared.answer.Refused.{Refused}
 use Rattle.kernel_model.specs.declared.answer.Refused.TheVariants as refused
-use Rattle.order_laws.specs.Moves.{Seen, calls, events, first_seen}
+use Rattle.kernel_model.specs.declared.event.Event.TheVariants.{Enter}
+use Rattle.order_laws.specs.Moves.{Seen, calls, events, first_seen, label_in}
 use Rattle.order_laws.specs.Orders.{reached}
 use Rattle.order_laws.specs.Outcomes.{settled}
 use Rattle.order_laws.specs.Privacy.{IsPrivate}
@@ -43,6 +44,12 @@ abbrev pub does_something : Called → Bool
 does_something Idle = false
 does_something Made = true
 does_something MadePrivately = true
+
+-- a call that is taken as private prints nothing on terminal 0
+abbrev pub PromisesNothing : Called → Seen → ℕ → Type 0
+PromisesNothing Idle s p = Unit {0}
+PromisesNothing Made s p = Unit {0}
+PromisesNothing MadePrivately s p = IfSome (label_in s (Enter p)).output (λ o. o.terminal ≡ 0 → ⊥)
 
 -- a call that is taken as private is so
 abbrev pub IsRightly : Called → Seen → ℕ → Type 0

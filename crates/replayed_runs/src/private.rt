@@ -20,6 +20,9 @@ use kernel_model::{Carrier, Descriptor, PipeEnd};
 /// The number of the call that writes.
 const WRITE: u32 = 2;
 
+/// The terminal whose text is a promise to the user's recovery.
+const PROMISES: u32 = 0;
+
 /// The terminal to which a call of this number may write, where its first argument is a descriptor that stands for this.
 fn written_by(number: u32, held: Option<Descriptor>) -> Option<u32>
     ensures { result ≡ written_at number held }
@@ -42,6 +45,16 @@ pub fn terminal_of(core: &Core, pid: u32) -> Option<u32>
                 .descriptor(pid, machine.reg(Reg::new(10))),
         ),
         Err(_) => None,
+    }
+}
+
+/// Whether a write to this terminal, if it is one, adds to what was promised.
+pub fn is_promised(terminal: Option<u32>) -> bool
+    ensures { result ≡ is_terminal terminal 0 }
+{
+    match terminal {
+        Some(own) => own == PROMISES,
+        None => false,
     }
 }
 

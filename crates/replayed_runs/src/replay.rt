@@ -2,15 +2,15 @@
 ghost use Rattle.std.specs.Prelude.{◌≡◌, ◌<◌, ◌≤◌, ℕ, [], true, false, length, IfOk, OnOk};
 ghost use Rattle.kernel_model.specs.Answers.{Kernel, now, with_event};
 ghost use Rattle.kernel_model.specs.declared.event.Event.TheVariants.{Enter};
-ghost use Rattle.order_laws.specs.Moves.{calls, label_in, writes_some};
+ghost use Rattle.order_laws.specs.Moves.{Seen, calls, label_in, writes_some};
 ghost use Rattle.replayed_runs.specs.Copies.{sums_of, texts_of};
-ghost use Rattle.replayed_runs.specs.Owning.{GoesTo};
+ghost use Rattle.replayed_runs.specs.Owning.{GoesTo, is_terminal};
 ghost use Rattle.order_laws.specs.Outcomes.{Stand, StandsAt};
-ghost use Rattle.replayed_runs.specs.Replays.{IsRightly, does_something, seen_of, start};
+ghost use Rattle.replayed_runs.specs.Replays.{IsRightly, PromisesNothing, does_something, seen_of, start};
 
 use crate::core_calls::{enter, last_process, run_all, run_on_after};
 use crate::pipe_texts::PipeTexts;
-use crate::private::{MadeCall, is_private, last_reads, terminal_of};
+use crate::private::{MadeCall, is_private, is_promised, last_reads, terminal_of};
 use crate::reply_sums::{Asked, ReplySums};
 use crate::windows::{copy_of, first_window, note_call};
 use crash_lists::Window;
@@ -36,6 +36,8 @@ pub struct Replay {
     pub(crate) replies: ReplySums,
     /// The files since the last sync, if windows are kept.
     pub(crate) window: Option<Window>,
+    /// Whether what terminal 0 got by then counts in each state: a write to it is then not made privately.
+    pub(crate) has_promises: bool,
     /// How many instructions a process runs at most to its next call.
     pub limit: u32,
 }
@@ -47,6 +49,7 @@ impl Drop for Replay {
             pipes: _pipes,
             replies: _replies,
             window: _window,
+            has_promises: _,
             limit: _,
         } = self;
     }
@@ -58,12 +61,14 @@ impl Replay {
         alloc: Global,
         core: Core,
         limit: u32,
+        has_promises: bool,
         keeps_windows: bool,
     ) -> Result<Replay, Fault>
         requires { core.history ≡ [] }
         ensures seen { IfOk result (λ replay. seen_of replay.core ≡ start limit core.boot) }
         ensures boot { IfOk result (λ replay. replay.core.boot ≡ core.boot) }
         ensures limit { IfOk result (λ replay. replay.limit ≡ limit) }
+        ensures promises { IfOk result (λ replay. replay.has_promises ≡ has_promises) }
     {
         let mut core = core;
         run_all(&mut core, limit)?;
@@ -73,6 +78,7 @@ impl Replay {
             pipes: PipeTexts::new(alloc),
             replies: ReplySums::new(alloc),
             window,
+            has_promises,
             limit,
         })
     }
@@ -83,12 +89,14 @@ impl Replay {
         ensures pipes { IfOk result (λ copy. texts_of copy ≡ texts_of self.now) }
         ensures replies { IfOk result (λ copy. sums_of copy ≡ sums_of self.now) }
         ensures limit { IfOk result (λ copy. copy.limit ≡ self.now.limit) }
+        ensures promises { IfOk result (λ copy. copy.has_promises ≡ self.now.has_promises) }
     {
         Ok(Replay {
             core: self.core.try_clone(alloc)?,
             pipes: self.pipes.try_clone()?,
             replies: self.replies.try_clone()?,
             window: copy_of(alloc, &self.window)?,
+            has_promises: self.has_promises,
             limit: self.limit,
         })
     }
@@ -99,6 +107,7 @@ impl Replay {
             pipes: _pipes,
             replies: _replies,
             window: _window,
+            has_promises: _,
             limit: _,
         } = self;
         core
@@ -135,6 +144,11 @@ impl Replay {
         }
     }
 
+    /// Whether a process that has not ended stands at a call or a trap.
+    pub fn is_to_enter(&self, pid: u32) -> bool {
+        !self.has_ended(pid) && self.is_stopped(pid)
+    }
+
     /// Whether a process stands at a call or a trap, or has ended.
     fn stands(&self, pid: u32) -> bool
         ensures { result ≡ true → StandsAt (seen_of self.now.core) pid }
@@ -166,24 +180,31 @@ impl Replay {
         last
     }
 
-    /// Whether some process stands at a sync, which it is to make.
-    pub fn is_at_sync(&self) -> bool {
+    /// Whether some process stands at a sync, or at a write to terminal 0.
+    pub fn is_at_sync_or_print(&self) -> bool {
         for pid in 1..=self.last_process() {
-            if Asked::by(&self.core, pid).is_sync() {
+            if Asked::by(&self.core, pid).is_sync() || is_promised(terminal_of(&self.core, pid)) {
                 return true;
             }
         }
         false
     }
 
-    /// What was just called, before its process runs on. It may have written to this terminal. Where windows are kept a sync is not made
-    /// privately: it ends the window of all processes.
+    /// Whether a call ends the window of all processes, or adds to what was promised, if that is kept. It may have written to this terminal.
+    fn is_kept(&self, terminal: Option<u32>, is_sync: bool) -> bool
+        ensures { result ≡ false → self.now.has_promises ≡ true → is_terminal terminal 0 ≡ false }
+    {
+        (is_sync && self.window.is_some()) || (self.has_promises && is_promised(terminal))
+    }
+
+    /// What was just called, before its process runs on. It may have written to this terminal. What is kept of it no call made privately.
     fn kind_of(&self, pid: u32, terminal: Option<u32>, is_sync: bool) -> Called
         ensures made { does_something result ≡ true }
         ensures rightly { (k : Kernel) → self.now.core ≡ with_event k (Enter pid) → writes_some (label_in (seen_of k) (Enter pid)) ≡ true
             → GoesTo terminal (label_in (seen_of k) (Enter pid)).output → IsRightly result (seen_of k) pid }
+        ensures promised { (s : Seen) → self.now.has_promises ≡ true → GoesTo terminal (label_in s (Enter pid)).output → PromisesNothing result s pid }
     {
-        if is_sync && self.window.is_some() {
+        if self.is_kept(terminal, is_sync) {
             return Called::Made;
         }
         let call = MadeCall {
@@ -204,6 +225,8 @@ impl Replay {
         ensures made { IfOk result (λ called. does_something called ≡ (calls self.old.limit).works ((calls self.old.limit).label (seen_of self.old.core) pid)) }
         ensures idle { IfOk result (λ called. does_something called ≡ false → seen_of self.new.core ≡ seen_of self.old.core) }
         ensures rightly { IfOk result (λ called. IsRightly called (seen_of self.old.core) pid) }
+        ensures promised { self.old.has_promises ≡ true → IfOk result (λ called. PromisesNothing called (seen_of self.old.core) pid) }
+        ensures promises { self.new.has_promises ≡ self.old.has_promises }
         ensures boot { OnOk result (self.new.core.boot ≡ self.old.core.boot) }
         ensures limit { self.new.limit ≡ self.old.limit }
     {

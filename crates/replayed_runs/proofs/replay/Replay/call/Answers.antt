@@ -28,3 +28,6 @@ returns-clause-rightly c =
     let k = c.args.self.now.core in
     let works = sym c.in_ok-enter.ensures.works ∙ c.if-not-branch.false in
     c.kind_of-called.ensures.rightly k (c.in_ok-enter.ensures.made c.if-not-branch.false) works c.terminal_of-terminal.ensures
+
+pub returns-clause-promised : goal.returns-clause-promised
+returns-clause-promised c = λ promises. c.kind_of-called.ensures.promised (seen_of c.args.self.now.core) promises c.terminal_of-terminal.ensures
