@@ -112,11 +112,13 @@ impl<'a, R: Files + AllocGlobal> WindowTrier<'a, R> {
 
     /// The same, with the window so far, if there are promises.
     fn hand_over_so_far(&mut self) -> Result<(), AllocError> {
-        match &self.window {
-            Some(window) if !self.promised.is_empty() => {
-                self.hand_over(window.try_clone(self.rt.alloc())?)
-            }
-            _ => Ok(()),
+        let so_far = match &self.window {
+            Some(window) if !self.promised.is_empty() => Some(window.try_clone(self.rt.alloc())?),
+            _ => None,
+        };
+        match so_far {
+            Some(window) => self.hand_over(window),
+            None => Ok(()),
         }
     }
 
