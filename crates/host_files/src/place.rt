@@ -13,6 +13,8 @@ const MOST_LINKS: u32 = 40;
 /// Where a path leads.
 #[derive(Drop)]
 pub struct Place {
+    /// The path with its folder without links. A file that is written beside the one at the path is in that folder.
+    given: String,
     /// The path without links; of a device, and of a path to no folder, as it is given.
     whole: String,
     /// Of a file that is there.
@@ -47,11 +49,10 @@ fn end_of_links<R: Files + AllocGlobal>(rt: &R, path: &str) -> io::Result<PathBu
     Ok(end)
 }
 
-/// The path without links of a file that is not there: that of its folder, and its name.
-fn missing_path<R: Files + AllocGlobal>(rt: &R, path: &str) -> io::Result<String> {
-    let end = end_of_links(rt, path)?;
-    let (Some(folder), Some(name)) = (end.parent(), end.file_name()) else {
-        return Ok(end.into_string());
+/// A path with its folder without links.
+fn in_its_folder<R: Files + AllocGlobal>(rt: &R, path: PathBuf) -> io::Result<String> {
+    let (Some(folder), Some(name)) = (path.parent(), path.file_name()) else {
+        return Ok(path.into_string());
     };
     let folder = match folder.as_str() {
         "" => whole_path(rt, ".")?,
@@ -63,13 +64,16 @@ fn missing_path<R: Files + AllocGlobal>(rt: &R, path: &str) -> io::Result<String
 }
 
 fn place_of<R: Files + AllocGlobal>(rt: &R, path: &str) -> io::Result<Place> {
+    let given = in_its_folder(rt, PathBuf::from_str(rt.alloc(), path)?)?;
     let (whole, file) = match fs::metadata(rt, path) {
         Ok(there) if there.is_file() => (whole_path(rt, path)?, Some(there)),
         Ok(_) => (String::from_str(rt.alloc(), path)?, None),
-        Err(error) if error.kind() == ErrorKind::NotFound => (missing_path(rt, path)?, None),
+        Err(error) if error.kind() == ErrorKind::NotFound => {
+            (in_its_folder(rt, end_of_links(rt, path)?)?, None)
+        }
         Err(error) => return Err(error),
     };
-    Ok(Place { whole, file })
+    Ok(Place { given, whole, file })
 }
 
 impl Place {
@@ -86,10 +90,17 @@ impl Place {
         }
     }
 
+    /// Whether a path is that of the file beside this one.
+    fn has_beside(&self, path: &str) -> bool {
+        path.strip_suffix(NEW) == Some(self.given.as_str())
+    }
+
     /// Whether a file that is written here would be written over the other one, or the file beside it would.
     pub fn writes_over(&self, other: &Place) -> bool {
-        let (one, two) = (self.whole.as_str(), other.whole.as_str());
-        one == two || two.strip_suffix(NEW) == Some(one) || self.is_one_file(other)
+        self.whole.as_str() == other.whole.as_str()
+            || self.has_beside(other.given.as_str())
+            || self.has_beside(other.whole.as_str())
+            || self.is_one_file(other)
     }
 }
 
