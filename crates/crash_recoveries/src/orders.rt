@@ -38,8 +38,8 @@ struct Numbering<'a, R, E> {
 }
 
 /// What runs the recovery on what crashes leave in states to which orders of calls lead. A search shows it each state. By bench's rule a
-/// crash leaves the files of the state, and what it shows: what any crash leaves, some state has. By another rule it leaves the lists that
-/// are allowed since the last sync, and what was printed by then.
+/// crash leaves the files of the state, and what it shows: what any crash leaves, some state has, if each change is committed by itself. By
+/// another rule it leaves the lists that are allowed since the last sync, and what was printed by then.
 #[derive(Drop)]
 pub struct Orders<'a, R, E> {
     alloc: Global,

@@ -212,6 +212,7 @@ fn check_left<R: Files<File = File> + AllocGlobal>(
     for words in [
         "exec --record linked --log there-is-no-such-folder/a ends",
         "exec --record linked --log made ends",
+        "exec --disk linked --log linked.new ends",
     ] {
         check_status(rt.alloc(), program, words, 125)?;
     }
