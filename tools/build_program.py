@@ -20,7 +20,7 @@ import time
 from command_words import first_commands
 from crate_copies import TOP, copy_crates
 from lanes import lanes
-from programs import SMALL, origin, said_by
+from programs import SMALL, said_by
 
 INTERRUPTS = (signal.SIGINT, signal.SIGTERM, signal.SIGHUP)
 PROVED = re.compile(r"rt: (\w+) proved")
@@ -214,11 +214,11 @@ def prove(program):
                 return
         test_room(program)
         begin(program)
-        start, said = time.time(), origin()
+        begun = program.begin()
         with tempfile.TemporaryDirectory(prefix="bench-build-") as room:
             try:
                 run = Build(program, room, environment)
-                program.take(True, run.run(), start, said)
+                program.take(True, run.run(), begun)
                 tell(f"{program.called} is proved and built, in {run.minutes()} minutes")
             except (Failed, OSError) as why:
                 # (a disk that the copy has filled has room again, once it is removed)

@@ -82,8 +82,8 @@ def help_of(lines):
     return Help(lines[0], usage, rows, example, "\n".join(lines) + "\n")
 
 
-def helps():
-    """Returns the program's help, and by name those of its commands."""
+def cases_of_help():
+    """Returns, by its words, what each case of help prints."""
     cases, words = {}, None
     with open(CASES, encoding="utf-8") as file:
         for line in file.read().split("\n"):
@@ -92,6 +92,12 @@ def helps():
                 cases[words] = []
             elif line.startswith(">") and words is not None:
                 cases[words].append(line[1:].removeprefix(" "))
+    return cases
+
+
+def helps():
+    """Returns the program's help, and by name those of its commands."""
+    cases = cases_of_help()
     program = help_of(cases["--help"])
     return program, {row.name: help_of(cases[f"{row.name} --help"]) for row in program.rows["Commands"] if row.name != "help"}
 
@@ -182,7 +188,8 @@ class Level:
         if row.name == "--help":
             return Said(self.help.text, 0)
         if row.name == "--version":
-            raise Unknown
+            with open(f"{TOP}/VERSION", encoding="utf-8") as file:
+                return Said(f"bench {file.read().strip()}\n", 0)
         if len(word) > 2 and not word.startswith("--"):
             raise Unknown
         self.given.append(row.form)
@@ -241,7 +248,8 @@ def read_words(words):
         raise Refused(f"'bench' requires a subcommand but one was not provided\n  [subcommands: {names}]", level.usage())
     name = words.pop(0)
     if name == "help":
-        level = Level(words[0], commands[words[0]]) if words and words[0] in commands else level
+        if words and words[0] in (*commands, "help"):
+            level = Level(words[0], commands.get(words[0]) or help_of(cases_of_help()["help help"]))
         rest = words[1:] if level.name else words
         if rest:
             raise Refused(f"unrecognized subcommand '{rest[0]}'", level.usage())

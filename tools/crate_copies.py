@@ -49,7 +49,7 @@ def copy_crates(names, to, edits=None):
         file.writelines(lines[it] for it in names)
     for name in names:
         here, there = f"{TOP}/crates/{name}", f"{to}/crates/{name}"
-        shutil.copytree(here, there, ignore=lambda at, _: ("out", GATE, MUTANTS) if at == here else ())
+        shutil.copytree(here, there, ignore=lambda at, _: ("out", GATE, MUTANTS) if at == here else (), ignore_dangling_symlinks=True)
         for folder in (edits or {}).get(name, ()):
             os.makedirs(f"{there}/{GATE}", exist_ok=True)
             for edit in os.listdir(f"{here}/{folder}"):

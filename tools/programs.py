@@ -7,6 +7,7 @@ edit in a crate that only the whole program uses leaves the small one fresh."""
 import os
 import shutil
 import subprocess
+import time
 from typing import NamedTuple
 
 from crate_copies import PROVED_FROM, TOP, crates_below, lines_of_crates
@@ -28,6 +29,13 @@ def commit():
 def origin():
     """Returns the commit of the sources and the kit, as `./bench --version` says them."""
     return f"{'at commit ' + commit() if commit() else 'from no commit'}, with {said_by('rt', 'version')}"
+
+
+class Begun(NamedTuple):
+    """When a build began, and of what. What is edited since is newer."""
+
+    start: float
+    text: str
 
 
 class Program(NamedTuple):
@@ -66,17 +74,20 @@ class Program(NamedTuple):
             return None, None, None
         return (start, said, lines) if os.access(file, os.X_OK) else (None, None, None)
 
-    def take(self, is_proved, made, start, said):
-        """Puts what a build made where the launcher looks for it. `start` is when the build began: what was edited since is newer. `said`
-        was its `origin` then."""
+    def take(self, is_proved, made, begun):
+        """Puts what a build made where the launcher looks for it, with what it was built of by its `begun`."""
         file = self.file(is_proved)
         os.makedirs(os.path.dirname(file), exist_ok=True)
         shutil.copyfile(made, f"{file}.new")
         os.chmod(f"{file}.new", 0o755)
         os.replace(f"{file}.new", file)
         with open(f"{file}.built", "w", encoding="utf-8") as built:
-            built.write(f"{said}\n{self.lines()}")
-        os.utime(f"{file}.built", (start, start))
+            built.write(begun.text)
+        os.utime(f"{file}.built", (begun.start, begun.start))
+
+    def begin(self):
+        """Returns what a build is begun with: the commit, the kit, and the lines of crates.txt now."""
+        return Begun(time.time(), f"{origin()}\n{self.lines()}")
 
 
 def is_newer(crate, start):
@@ -91,7 +102,7 @@ def is_newer(crate, start):
             for it in found:
                 if it.is_dir():
                     folders.append(it.path)
-                elif it.stat().st_mtime_ns > start:
+                elif not it.name.startswith(".#") and it.stat(follow_symlinks=False).st_mtime_ns > start:
                     return True
     return False
 

@@ -24,7 +24,7 @@ sessions = importlib.import_module("try-sessions")
 FILES = sorted(glob.glob(f"{TOP}/crates/test_runner/data/*.sessions"))
 LACKING = "the small program has no {}: ./bench --build proves the whole one"
 # Words that name no command and no option.
-PLAIN = ("a", "b", "1", "zz", "/nowhere")
+PLAIN = ("a", "b", "1", "zz", "/nowhere", "help")
 MARKS = ("-h", "-V", "-x", "-", "--", "-1", "--help", "--explain")
 
 

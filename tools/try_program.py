@@ -11,7 +11,6 @@ import tempfile
 import time
 
 from crate_copies import TOP
-from programs import origin
 
 # How often it is looked whether the program runs, and how long nothing is said, in seconds.
 LOOKS, SILENCE = 0.2, 30
@@ -41,11 +40,12 @@ def compiled(program, room):
     os.mkfifo(f"{room}/wait")
     os.mkdir(f"{room}/tmp")
     words = ["replay", f"{room}/wait"]
-    run = subprocess.Popen(
-        ["rt", "try", "--seconds", str(LONGEST), "--", *words], cwd=f"{TOP}/crates/{program.crate}",
-        env={**os.environ, "TMPDIR": f"{room}/tmp"}, stdin=subprocess.DEVNULL, stdout=subprocess.PIPE, stderr=subprocess.STDOUT, text=True,
-        errors="replace", start_new_session=True,
-    )
+    with open(f"{room}/said", "wb") as out:
+        run = subprocess.Popen(
+            ["rt", "try", "--seconds", str(LONGEST), "--", *words], cwd=f"{TOP}/crates/{program.crate}",
+            env={**os.environ, "TMPDIR": f"{room}/tmp"}, stdin=subprocess.DEVNULL, stdout=out, stderr=subprocess.STDOUT,
+            start_new_session=True,
+        )
     began = said = time.monotonic()
     try:
         while run.poll() is None:
@@ -56,7 +56,8 @@ def compiled(program, room):
             if time.monotonic() - said >= SILENCE:
                 said = time.monotonic()
                 tell(f"compiling; {int(said - began)} seconds gone")
-        raise OSError("\n".join(["rt try did not compile it:", *run.stdout.read().splitlines()[-20:]]))
+        with open(f"{room}/said", encoding="utf-8", errors="replace") as out:
+            raise OSError("\n".join(["rt try did not compile it:", *out.read().splitlines()[-20:]]))
     finally:
         # All that it has started ends with it.
         run.terminate()
@@ -74,10 +75,10 @@ def compile_unproved(program):
         return 1
     for it in (signal.SIGTERM, signal.SIGHUP):
         signal.signal(it, interrupt)
-    start, said = time.time(), origin()
+    begun = program.begin()
     try:
         with tempfile.TemporaryDirectory(prefix="bench-unproved-") as room:
-            program.take(False, compiled(program, room), start, said)
+            program.take(False, compiled(program, room), begun)
         return 0
     except KeyboardInterrupt:
         tell("interrupted")
