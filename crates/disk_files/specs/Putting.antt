@@ -1,5 +1,5 @@
 -- A file that is put on a disk.
-use Rattle.std.specs.Prelude.{◌≡◌, ℕ, List, [], ◌∷◌, length, if◌then◌else◌}
+use Rattle.std.specs.Prelude.{◌≡◌, ℕ, ◌+◌, List, [], ◌∷◌, length, if◌then◌else◌}
 use Rattle.std.specs.Str.{bytes_eq}
 use Rattle.disk_model.specs.declared.change.Change.{Change}
 use Rattle.disk_model.specs.declared.change.NamedFile.{NamedFile}
@@ -7,6 +7,7 @@ use Rattle.disk_model.specs.Files.{Follow, files_after}
 use Rattle.disk_model.specs.Held.{IsHeldTo}
 use Rattle.disk_model.specs.Storage.{Storage, cut}
 use Rattle.disk_model.specs.Runs.{first_storage}
+use Rattle.group_commit.specs.Stages.{length_all}
 
 -- the files once the file of this name has these bytes: every other file stays as it is and where it is, and a file that is new is
 -- the last
@@ -31,3 +32,7 @@ pub record IsPut (disk name bytes : List ℕ) (storage : Storage) : Type 0 where
   pub makes : Makes files (with_file files name bytes) changes
   pub begun : storage ≡ cut (first_storage disk gate) changes (with_file files name bytes)
   pub all : storage.next_committed ≡ length changes
+
+-- how many writes are in flight and in the stages to come
+abbrev pub writes_left : Storage → ℕ
+writes_left storage = length storage.device.in_flight + length_all storage.stages

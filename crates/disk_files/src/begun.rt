@@ -2,7 +2,7 @@
 ghost use Rattle.std.specs.Prelude.{◌≡◌, true, IfOk};
 ghost use Rattle.disk_model.specs.Files.{IsName};
 ghost use Rattle.disk_model.specs.Storage.{is_quiet};
-ghost use Rattle.disk_files.specs.Putting.{IsPut};
+ghost use Rattle.disk_files.specs.Putting.{IsPut, writes_left};
 
 use crate::edit::changes_putting;
 use disk_model::held_files_are_made;
@@ -22,7 +22,8 @@ pub fn begin_put(
 ) -> Result<(Committer, u64), Fault>
     requires name { IsName name.now }
     requires quiet { is_quiet device ≡ true }
-    ensures { IfOk result (λ begun. IsPut device.disk name.now bytes.now begun.0) }
+    ensures put { IfOk result (λ begun. IsPut device.disk name.now bytes.now begun.0) }
+    ensures writes { IfOk result (λ begun. begun.1 ≡ writes_left begun.0) }
 {
     held_files_are_made();
     let (table, gate) = journal::open(alloc, &device)?;

@@ -1,5 +1,7 @@
 //! `put_file`: copies a file onto a disk.
+ghost use Rattle.std.specs.Prelude.{◌≡◌};
 ghost use Rattle.disk_model.specs.Files.{IsName};
+ghost use Rattle.disk_files.specs.Putting.{writes_left};
 
 use crate::begun::begin_put;
 use crate::names::is_name;
@@ -18,7 +20,9 @@ fn store_stages<F: DiskFile>(
     file: &mut F,
     committer: &mut Committer,
     writes: u64,
-) -> Result<(), Fault> {
+) -> Result<(), Fault>
+    requires { writes ≡ writes_left committer.old }
+{
     for _ in 0..writes {
         let count = committer.writes_in_flight().len();
         if count > 0 && !store(file, committer.writes_in_flight()) {

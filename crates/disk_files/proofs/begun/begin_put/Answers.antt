@@ -23,8 +23,8 @@ cut-requires-clause-formed c =
     subst (λ (cs : List Change). AllByRecursion IsFormed cs) (sym c.as_slice.ensures.value)
     (formed c.in_ok-files.files c.changes_putting.new.files c.in_ok-changes.changes.items c.in_ok-changes.ensures.makes)
 
-pub returns-in-Ok : goal.returns-in-Ok
-returns-in-Ok c =
+pub returns-in-Ok-clause-put : goal.returns-in-Ok-clause-put
+returns-in-Ok-clause-put c =
     let new = c.changes_putting.new.files in
     let changes = c.in_ok-changes.changes.items in
     let name = c.args.name.now in
@@ -40,3 +40,6 @@ returns-in-Ok c =
     (subst (λ (files : List NamedFile). Makes files new changes) same c.in_ok-changes.ensures.makes)
     (subst (λ (files : List NamedFile). new ≡ with_file files name bytes) same c.in_ok-changes.ensures.file)
     begun c.in_ok-changes.ensures.few
+
+pub returns-in-Ok-clause-writes : goal.returns-in-Ok-clause-writes
+returns-in-Ok-clause-writes c = c.in-Ok.ensures.writes

@@ -1,6 +1,3 @@
-use Rattle.std.proofs.Common.{◌≡◌, sym, ap, ◌∙◌, List}
-use Rattle.disk_model.specs.declared.change.NamedFile.{NamedFile}
-use Rattle.disk_files.specs.Putting.{Makes}
 use Rattle.disk_files.proofs.Changes.{makes_more}
 use Rattle.disk_files.proofs.edit.make.Goals as goal
 
