@@ -24,6 +24,10 @@ import signal
 import sys
 import urllib.parse
 
+sys.dont_write_bytecode = True
+
+from specified import counts
+
 MOST_WORDS = 35
 # The pages whose blocks of text stand in cases or examples.
 SHOWING = (
@@ -292,6 +296,15 @@ class Definitions:
             yield head, f"no row has the {self.lines[name]:,} lines of definitions of {name}"
 
 
+def findings_of_code(page):
+    """Finds wrong numbers of lines of code, and of those that contracts speak of."""
+    text = "".join(f"{it}\n" for _, it in numbered_lines(page))
+    for it in re.finditer(r"Of ([\d,]+) lines of code, contracts say what ([\d,]+) do", text):
+        found = [sum(pair[place] for pair in counts().values()) for place in (0, 1)]
+        if [int(number.replace(",", "")) for number in it.groups()] != found:
+            yield text[: it.start()].count("\n") + 1, f"{' and '.join(it.groups())} lines of code, by tools/specified.py {found[0]:,} and {found[1]:,}"
+
+
 class Pages:
     def __init__(self):
         self.anchors = {}
@@ -339,6 +352,7 @@ class Pages:
             yield from Crates(CRATES).findings(page)
         if page in COUNTING:
             yield from Definitions().findings(page)
+            yield from findings_of_code(page)
 
 
 def finding_of_version():

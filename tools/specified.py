@@ -62,20 +62,24 @@ def is_said(lines):
     return any(line.lstrip().startswith("ensures") for line in lines)
 
 
-def main():
-    crates = crates_below([PROGRAM])
-    code = {it: [*read(it)] for it in crates}
+def counts():
+    """Returns, by crate, how many lines of code its functions have, and how many of these are specified."""
+    code = {it: [*read(it)] for it in crates_below([PROGRAM])}
     promised = {(trait, name) for all_of in code.values() for name, trait, lines in all_of if trait and is_said(lines)}
-    total = said = 0
-    for crate in sorted(crates):
-        counts = [0, 0]
-        for name, trait, lines in code[crate]:
-            number = sum(bool(it.strip()) and not it.lstrip().startswith("//") for it in lines)
-            counts[0] += number
-            counts[1] += number * (is_said(lines) or (trait, name) in promised)
-        total, said = total + counts[0], said + counts[1]
-        if "--crates" in sys.argv[1:]:
-            print(f"{crate:20} {counts[0]:6,} {counts[1]:6,}")
+    found = {}
+    for crate, all_of in sorted(code.items()):
+        sizes = [(sum(bool(it.strip()) and not it.lstrip().startswith("//") for it in lines), name, trait, lines) for name, trait, lines in all_of]
+        said = sum(size for size, name, trait, lines in sizes if is_said(lines) or (trait, name) in promised)
+        found[crate] = sum(size for size, *_ in sizes), said
+    return found
+
+
+def main():
+    found = counts()
+    if "--crates" in sys.argv[1:]:
+        for crate, (total, said) in found.items():
+            print(f"{crate:20} {total:6,} {said:6,}")
+    total, said = (sum(it[place] for it in found.values()) for place in (0, 1))
     print(f"{total:,} lines of code in functions: {said:,} specified, {total - said:,} only proved safe and ending")
 
 
