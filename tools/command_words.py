@@ -137,10 +137,11 @@ class Said(NamedTuple):
 
 
 class Refused(Exception):
-    """Why words ask for nothing: the message, and the usage that it ends with."""
+    """Why words ask for nothing: the message, and the usage that it ends with. `help` has no help of its own to point to."""
 
-    def __init__(self, message, usage):
-        super().__init__(f"error: {message}\n\nUsage: {usage}\n\nFor more information, try '--help'.\n")
+    def __init__(self, message, usage, has_help=True):
+        more = "\nFor more information, try '--help'.\n" if has_help else ""
+        super().__init__(f"error: {message}\n\nUsage: {usage}\n{more}")
 
 
 class Unknown(Exception):
@@ -252,7 +253,7 @@ def read_words(words):
             level = Level(words[0], commands.get(words[0]) or help_of(cases_of_help()["help help"]))
         rest = words[1:] if level.name else words
         if rest:
-            raise Refused(f"unrecognized subcommand '{rest[0]}'", level.usage())
+            raise Refused(f"unrecognized subcommand '{rest[0]}'", level.usage(), level.name != "help")
         return Said(level.help.text, 0)
     if name not in commands:
         names = alike(name, [*commands, "help"])
