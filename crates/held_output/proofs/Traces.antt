@@ -42,6 +42,12 @@ pub reply-more : (rs : List (Held Reply)) (mark : ℕ) (reply : Reply)
 reply-more [] mark reply = refl
 reply-more (r ∷ rs) mark reply = ap (λ is. record { what = Got r.what; mark = r.mark } ∷ is) (reply-more rs mark reply)
 
+-- the replies among the items are the replies
+pub replies-all : (rs : List (Held Reply)) (ending : Option Ending) → whats rs ≡ replies_in (whats (as_items rs ++ ending_items ending))
+replies-all [] None = refl
+replies-all [] (Some e) = refl
+replies-all (r ∷ rs) ending = ap (λ xs. r.what ∷ xs) (replies-all rs ending)
+
 -- the end alone has no reply
 replies-of-end : (c : ℕ) (ending : Option Ending) → replies_in (whats (prefix (λ h. nat_le h.mark c) (ending_items ending))) ≡ []
 replies-of-end c None = refl

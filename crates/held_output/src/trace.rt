@@ -63,6 +63,13 @@ impl Trace {
         self.replies.released()
     }
 
+    /// All replies, handed out or held back, oldest first. Takes no memory.
+    pub fn all_replies(&self) -> &[Reply]
+        ensures { result.now ≡ replies_in (whats self.now.items) }
+    {
+        self.replies.items()
+    }
+
     /// The status with which the process ended. None until it has ended, all replies are handed out, and its end rests on committed
     /// changes alone.
     pub fn ended(&self) -> Option<u32>

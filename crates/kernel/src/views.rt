@@ -2,8 +2,9 @@
 ghost use Rattle.std.specs.Prelude.{◌≡◌, ◌<◌, None, true, not, is_some, IsSomeAnd, IfOk, OnOk, IfErr};
 ghost use Rattle.disk_model.specs.Storage.{is_empty};
 ghost use Rattle.kernel_model.specs.Answers.{now, process_of, committed as committed_in, changes as changes_in, in_flight as least_in_flight, wants_cut as is_cut_wanted};
+ghost use Rattle.kernel_model.specs.Paths.{changes_in_log};
 ghost use Rattle.kernel_model.specs.Ran.{ran_by_turns};
-ghost use Rattle.kernel_model.specs.Shown.{shown as shown_of, printed, handed, replies_in, end_in};
+ghost use Rattle.kernel_model.specs.Shown.{shown as shown_of, printed, told, handed, replies_in, end_in};
 ghost use Rattle.kernel_model.specs.Views.{contents};
 ghost use Rattle.kernel_model.specs.World.{terminal_count};
 ghost use Rattle.kernel_model.specs.declared.answer.Refused.TheVariants.{NoProcess};
@@ -13,7 +14,7 @@ ghost use Rattle.kernel_step.specs.Entering.{IsSightOf};
 ghost use Rattle.kernel.specs.Sums.{sum_of_turns, sum_of_enters};
 
 use crate::cores::Core;
-use disk_model::Piece;
+use disk_model::{Change, Piece};
 use files::FileList;
 use kernel_model::{Event, Refused};
 use kernel_step::{Footprints, KernelTables, Machine};
@@ -46,6 +47,15 @@ impl Core {
         self.running.trace(pid)
     }
 
+    /// All replies to a process's calls, handed out or held back; those of a forked process begin with its parent's. They are for records
+    /// of what a run did: what a user may see is `trace`. Refused: NoProcess.
+    pub fn replies(&self, pid: u32) -> Result<&[Reply], Refused>
+        ensures replies { IfOk result (λ rs. rs.now ≡ replies_in (contents (told pid (now self.now).log))) }
+        ensures none { IfErr result (λ why. (why ≡ NoProcess) × (process_of self.now pid ≡ None)) }
+    {
+        self.running.replies(pid)
+    }
+
     /// The status with which a process ended, where all its replies are handed out and its end rests on committed changes alone.
     /// None before. Refused: NoProcess.
     pub fn ended(&self, pid: u32) -> Result<Option<u32>, Refused>
@@ -75,6 +85,13 @@ impl Core {
         ensures { result ≡ changes_in (now self.now) }
     {
         self.running.changes()
+    }
+
+    /// The changes of files, in order, committed or not.
+    pub fn change_list(&self) -> &[Change]
+        ensures { result.now ≡ changes_in_log (now self.now).log }
+    {
+        self.running.change_list()
     }
 
     /// How many instructions the history's Turns ran, those of loans' results among them.

@@ -56,6 +56,15 @@ handed-is b r tasks pid t h same of =
     released-is w.storage.committed (told (of.place + 1) w.log) t.trace (h.parts.mirrors.each.each of.place t there).trace
     ∙ ap (λ (p : ℕ). handed w p) (sym of.placed.number)
 
+-- what the task of a process was told is what the run told it
+pub told-is : (b : Boot) (r : Running) (tasks : List Task) (pid : ℕ) (t : Task) → Represents b r → tasks ≡ r.tasks.items → IsTaskOf tasks pid t
+    → whats t.trace.items ≡ contents (told pid (run_of b r.history.items).log)
+told-is b r tasks pid t h same of =
+    let w : World = run_of b r.history.items in
+    let there : slice_get r.tasks.items of.place ≡ Some t = subst (λ (ts : List Task). slice_get ts of.place ≡ Some t) same of.there in
+    written-is (told (of.place + 1) w.log) t.trace.items (h.parts.mirrors.each.each of.place t there).trace.marked
+    ∙ ap (λ (p : ℕ). contents (told p w.log)) (sym of.placed.number)
+
 -- ---- the process of a task
 
 -- the task of a process stands for it

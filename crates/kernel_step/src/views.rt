@@ -5,8 +5,9 @@ ghost use Rattle.disk_model.specs.Runs.{quiet};
 ghost use Rattle.disk_model.specs.Storage.{is_empty};
 ghost use Rattle.simdisk.specs.Room.{crashed};
 ghost use Rattle.kernel_model.specs.Answers.{now, process_of, committed as committed_in, changes as changes_in, in_flight as least_in_flight, wants_cut as is_cut_wanted};
+ghost use Rattle.kernel_model.specs.Paths.{changes_in_log};
 ghost use Rattle.kernel_model.specs.Ran.{ran_by_turns};
-ghost use Rattle.kernel_model.specs.Shown.{shown as shown_of, printed, handed, replies_in, end_in};
+ghost use Rattle.kernel_model.specs.Shown.{shown as shown_of, printed, told, handed, replies_in, end_in};
 ghost use Rattle.kernel_model.specs.Views.{contents};
 ghost use Rattle.kernel_model.specs.World.{Boot, terminal_count};
 ghost use Rattle.kernel_model.specs.declared.answer.Refused.TheVariants.{NoProcess};
@@ -19,7 +20,7 @@ ghost use Rattle.kernel_step.specs.Represents.{Represents, kernel_in};
 use crate::running::Running;
 use crate::tasks::task_of;
 use calls::KernelTables;
-use disk_model::Piece;
+use disk_model::{Change, Piece};
 use footprints::Footprints;
 use held_output::Withheld;
 use kernel_model::{Event, Refused};
@@ -65,6 +66,15 @@ impl Running {
         Ok(task.trace.replies())
     }
 
+    /// As `Core::replies`.
+    pub fn replies(&self, pid: u32) -> Result<&[Reply], Refused>
+        ensures replies { IfOk result (λ rs. (b : Boot) → Represents b self.now → rs.now ≡ replies_in (contents (told pid (now (kernel_in b self.now)).log))) }
+        ensures none { IfErr result (λ why. (b : Boot) → Represents b self.now → (why ≡ NoProcess) × (process_of (kernel_in b self.now) pid ≡ None)) }
+    {
+        let task = task_of(&self.tasks, pid)?;
+        Ok(task.trace.all_replies())
+    }
+
     /// As `Core::ended`.
     pub fn ended(&self, pid: u32) -> Result<Option<u32>, Refused>
         ensures status { IfOk result (λ status. (b : Boot) → Represents b self.now → status ≡ end_in (handed (now (kernel_in b self.now)) pid)) }
@@ -94,6 +104,13 @@ impl Running {
         ensures { (b : Boot) → Represents b self.now → result ≡ changes_in (now (kernel_in b self.now)) }
     {
         self.system.changes.len() as u64
+    }
+
+    /// As `Core::change_list`.
+    pub fn change_list(&self) -> &[Change]
+        ensures { (b : Boot) → Represents b self.now → result.now ≡ changes_in_log (now (kernel_in b self.now)).log }
+    {
+        &self.system.changes
     }
 
     /// As `Core::ran`.
