@@ -3,11 +3,13 @@
 #
 #     builds.sh [BUILD]
 #
-# BUILD is the script, that of this repository if it is not given. Images run under qemu-riscv32, by Linux's numbers of calls. It needs the
-# packages gcc-riscv64-unknown-elf, picolibc-riscv64-unknown-elf, clang, lld, llvm, qemu-user and gdb-multiarch.
+# BUILD is the script, that of this repository if it is not given. Images run under qemu-riscv32, by Linux's numbers of calls. posix.c runs
+# by bench, which BENCH names, and natively: its calls have other numbers and modes there. It needs the packages gcc,
+# gcc-riscv64-unknown-elf, picolibc-riscv64-unknown-elf, clang, lld, llvm, qemu-user and gdb-multiarch.
 set -u
 here=$(CDPATH='' cd "$(dirname "$0")" && pwd)
 build=$(readlink -f "${1:-$here/../examples/c/build.sh}")
+bench=$(readlink -f "${BENCH:-$here/../../../bench/out/bench}")
 room=$(mktemp -d)
 trap 'rm -rf "$room"' EXIT
 cd "$room" || exit 1
@@ -56,6 +58,12 @@ cat >large.c <<'END'
 volatile char table[200000], other[60000];
 int main(void) { return table[7] + other[8]; }
 END
+cat >missing.c <<'END'
+int socket(int, int, int);
+int main(void) { return socket(0, 0, 0); }
+END
+cc -w "$here/posix.c" -o native
+mkdir linux
 printf '#include "calls.h"\nint main(void)\n{\n    sys_write(1, "hi\\n", 3);\n    return 3;\n}\n' >hello.c
 
 for compiler in riscv64-unknown-elf- 'clang --target=riscv32'; do
@@ -84,5 +92,11 @@ for compiler in riscv64-unknown-elf- 'clang --target=riscv32'; do
     same "$cc -g: qemu-riscv32" "$(printf 'hi\n 3')" "$(qemu-riscv32 image.elf; echo " $?")"
     same "$cc -g: gdb" 'Line 4' "$(gdb-multiarch -nx -batch -ex 'info line hello.c:4' image.elf 2>&1 | cut -c 1-6)"
     rm -f image image.elf
+    CC=$cc "$build" --posix -Wall -Wextra -Wno-unused-result "$here/posix.c" image 2>said
+    same "$cc posix.c: what the compiler says" '' "$(cat said)"
+    same "$cc posix.c" "$(cd linux && ../native && rm -f ./*)" "$("$bench" exec image 2>&1)"
+    CC=$cc "$build" --posix missing.c image 2>said
+    same "$cc missing.c" 'build.sh: socket cannot be had: there is no network' "$(grep '^build.sh' said)"
+    rm -f image
 done
 exit $failed

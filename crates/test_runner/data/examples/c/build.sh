@@ -3,10 +3,11 @@
 set -eu
 usage() {
     cat >&2 <<'END'
-usage: build.sh [--picolibc] [FLAGS] SOURCE.. IMAGE
+usage: build.sh [--picolibc | --posix] [FLAGS] SOURCE.. IMAGE
 Builds an image of sources in C (.c) and assembly (.s, .S), of objects (.o) and of archives (.a).
 
-  --picolibc  with Debian's picolibc: printf, malloc and the rest of a C library
+  --picolibc  with Debian's picolibc: printf, malloc, files and the rest of a C library
+  --posix     the same, with what POSIX adds: fsync, pread, dup, mmap
   FLAGS       what the compiler is given besides, each as one word: -O3 -DN=5 -Ifolder -lm; with -g the linker's file, an
               executable with lines and symbols, is kept beside the image, as IMAGE.elf
   IMAGE       the image, which is written anew; never over a source
@@ -25,13 +26,14 @@ refuse() {
 here=$(dirname "$0")
 [ $# -ge 2 ] || usage
 for image; do :; done
-sources=0 libc=no debug=no
+sources=0 libc=no posix=no debug=no
 for word; do
     case $word in
         -g0) debug=no ;;
         -g*) debug=yes ;;
         --help | -h) usage ;;
         --picolibc) libc=yes ;;
+        --posix) libc=yes posix=yes ;;
         -o) refuse "-o is not taken: the last word is the image" ;;
         -c | -S | -E) refuse "$word is not taken: it makes no program" ;;
     esac
@@ -71,27 +73,57 @@ helpers=$(riscv64-unknown-elf-gcc -march=rv32im -mabi=ilp32 -print-libgcc-file-n
 pico=${PICOLIBC:-/usr/lib/picolibc/riscv64-unknown-elf}
 if [ $libc = yes ]; then
     [ -d "$pico" ] || refuse "Debian's picolibc-riscv64-unknown-elf is not there"
-    before="-isystem $pico/include -Wl,--wrap=fdopen" library="$here/picolibc.c"
+    before="-isystem $pico/include -Wl,--wrap=fdopen"
     after="-L$pico/lib/rv32im/ilp32 -Wl,--start-group -lc $helpers -Wl,--end-group"
 else
-    before=-ffreestanding library="$here/library.c" after=$helpers
+    before=-ffreestanding after=$helpers
     # clang++ would give main another name there, as to a function of the program's own.
     case $CC in *clang++*) before=-fno-builtin ;; esac
 fi
 
-linked=$(mktemp)
-trap 'rm -f "$linked"' EXIT
+linked=$(mktemp) said=$(mktemp)
+trap 'rm -f "$linked" "$said"' EXIT
+# Why a function of POSIX is not there; docs/ABI.md has the same table.
+reason_for() {
+    case $1 in
+        sigaction | sigprocmask | pthread_sigmask | sigwait | alarm | pause | setitimer) echo "no signals are sent" ;;
+        pthread_* | sem_* | thrd_* | mtx_* | cnd_*) echo "a process has one thread" ;;
+        mkdir | rmdir | chdir | getcwd | opendir | readdir | closedir) echo "there is one directory, which no call lists" ;;
+        link | symlink | readlink) echo "a file has one name" ;;
+        flock | lockf) echo "there are no locks of files" ;;
+        chown | fchown | utime | utimes | futimens) echo "a file has no owner and no times" ;;
+        sleep | usleep | nanosleep | clock_gettime) echo "there is no clock to wait for" ;;
+        select | poll | ioctl) echo "no call looks whether it would wait" ;;
+        waitpid) echo "wait collects any child" ;;
+        execv | execve | execvp | execl | execlp) echo "a program has no arguments; sys_exec of calls.h goes on in another one" ;;
+        mprotect | mremap | madvise | mlock) echo "the pages of a process stay as they are" ;;
+        socket | connect | bind | listen | accept | send | recv | getaddrinfo) echo "there is no network" ;;
+        *) return 1 ;;
+    esac
+}
 # Of all words but the last the sources and the flags, after the flags that each program needs.
 rest=$#
 while [ $rest -gt 0 ]; do
     word=$1
     shift
     rest=$((rest - 1))
-    [ $rest -eq 0 ] || [ "$word" = --picolibc ] || set -- "$@" "$word"
+    case $word in --picolibc | --posix) continue ;; esac
+    [ $rest -eq 0 ] || set -- "$@" "$word"
 done
+[ $posix = no ] || set -- -I "$here/posix" "$@"
+if [ $libc = yes ]; then
+    # g++ forgets -x after one file.
+    set -- "$@" -x c "$here/picolibc.c" -x c "$here/posix.c"
+else
+    set -- "$@" -x c "$here/library.c"
+fi
 $CC -march=rv32im -mabi=ilp32 -mstrict-align -O2 -ftls-model=local-exec -ffunction-sections -fdata-sections -fno-pic $before \
     -static -nostdlib $linker -Wl,--gc-sections -Wl,--orphan-handling=error -T "$here/image.ld" -I "$here" \
-    "$here/start.s" "$@" -x c "$library" -x none $after -o "$linked" || {
+    "$here/start.s" "$@" -x none $after -o "$linked" 2>"$said" || {
+    cat "$said" >&2
+    sed -n "s/.*undefined reference to .\(.*\)'$/\1/p; s/.*undefined symbol: //p" "$said" | sort -u | while read -r name; do
+        ! why=$(reason_for "$name") || echo "build.sh: $name cannot be had: $why" >&2
+    done
     if [ $libc = no ]; then
         # What only a C library has: a header, but those that each compiler brings, or -lm.
         case " $* " in *' -l'*) wants=yes ;; *) wants=no ;; esac
@@ -100,6 +132,7 @@ $CC -march=rv32im -mabi=ilp32 -mstrict-align -O2 -ftls-model=local-exec -ffuncti
     fi
     exit 1
 }
+cat "$said" >&2
 # The compiler's tool of this name, which is beside objcopy.
 tool_of() {
     echo "${OBJCOPY%% *}" | sed "s/objcopy/$1/"

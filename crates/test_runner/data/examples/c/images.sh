@@ -12,7 +12,7 @@ mkdir -p "$1"
 folder=$(readlink -f "$1")
 here=$(CDPATH='' cd "$(dirname "$0")" && pwd)
 # What was built is built from a copy, since programs.s takes upper.image and reverse.image from the folder where it is.
-cp "$here"/*.c "$here"/*.h "$here"/*.s "$here"/image.ld "$here"/build.sh "$folder"
+cp -R "$here"/*.c "$here"/*.h "$here"/*.s "$here"/image.ld "$here"/build.sh "$here"/posix "$folder"
 cd "$folder"
 failed=0
 while read -r image compiler flags; do
