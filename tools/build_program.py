@@ -51,11 +51,23 @@ class Failed(Exception):
 
 
 def jobs():
-    """Returns how many processors the proofs may use, in the words of the environment."""
-    asked = os.environ.get("BENCH_JOBS") or str(lanes())
-    if not (asked.isdigit() and int(asked) >= 1):
+    """Returns how many processors the proofs may use; nothing if nobody says so."""
+    asked = os.environ.get("BENCH_JOBS", "")
+    if asked and not (asked.isdigit() and int(asked) >= 1):
         raise Failed(f"BENCH_JOBS is a number from 1 on, and no {asked}")
-    return {"RT_JOBS": asked}
+    return asked
+
+
+def parts(program):
+    """Gives the crates of each run of `rt ci`, and its words of the environment. With RT_JOBS each proof has one processor. The last crates
+    come one after another, so a run of their own gives each of them all processors; it finds what the first one proved where that is kept."""
+    if asked := jobs():
+        yield program.crates, {"RT_JOBS": asked}
+    elif is_kept():
+        yield program.first_crates, {"RT_JOBS": str(lanes())}
+        yield program.crates, {}
+    else:
+        yield program.crates, {"RT_JOBS": str(lanes())}
 
 
 def store():
@@ -74,14 +86,20 @@ def keeps():
     return False
 
 
+def is_writable(store):
+    return os.access(store if os.path.isdir(store) else os.path.dirname(store), os.W_OK)
+
+
+def is_kept():
+    """Returns whether a later run finds what this one proves."""
+    return keeps() and is_writable(store())
+
+
 def what_is_kept():
     """Says what a later run finds of this one."""
     if not keeps():
         return "NOTHING IS KEPT of a run that does not come to its end, since the rt of this kit keeps nothing"
-    at = store()
-    if os.access(at if os.path.isdir(at) else os.path.dirname(at), os.W_OK):
-        return "what is proved is kept"
-    return f"NOTHING IS KEPT, since {at} cannot be written"
+    return "what is proved is kept" if is_writable(store()) else f"NOTHING IS KEPT, since {store()} cannot be written"
 
 
 def room_wanted(program, folder):
@@ -127,18 +145,17 @@ def lines_of(run):
 
 
 class Build:
-    """A run of `rt ci` in a copy, and what it said of the last crate."""
+    """Runs of `rt ci` in copies: the crates that they proved, and what was said of the last one."""
 
-    def __init__(self, program, room, environment):
-        self.program, self.copy, self.temporary, self.names = program, f"{room}/bench", f"{room}/tmp", program.crates
-        self.environment = {**environment, "TMPDIR": self.temporary}
-        self.began, self.proved, self.said = time.monotonic(), 0, []
+    def __init__(self, program, room):
+        self.program, self.room, self.temporary = program, room, f"{room}/tmp"
+        self.began, self.proved, self.said = time.monotonic(), set(), []
 
     def minutes(self):
         return int(time.monotonic() - self.began) // 60
 
     def say(self, what):
-        tell(f"{what}; {self.proved} of {len(self.names)} crates are proved, {self.minutes()} minutes gone")
+        tell(f"{what}; {len(self.proved)} of {len(self.program.crates)} crates are proved, {self.minutes()} minutes gone")
 
     def hear(self, line):
         """Tells what a line of the run means; a crate that is refused ends the build."""
@@ -146,8 +163,9 @@ class Build:
             # What is said of a crate begins here.
             self.said.clear()
         self.said.append(line)
-        proved, refused, note = PROVED.match(line), REFUSED.match(line), NOTE.match(line)
-        self.proved += bool(proved or KEPT.match(line))
+        proved, kept, refused, note = PROVED.match(line), KEPT.match(line), REFUSED.match(line), NOTE.match(line)
+        if proved or kept:
+            self.proved.add((proved or kept)[1])
         if proved:
             self.say(f"proved {proved[1]}")
         elif note:
@@ -157,13 +175,21 @@ class Build:
 
     def run(self):
         """Proves all crates, and returns where the program then is."""
-        copy_crates(self.names, self.copy)
         # As root, rt runs the program as nobody, who has to come through these folders.
-        os.chmod(os.path.dirname(self.copy), 0o711)
+        os.chmod(self.room, 0o711)
         os.mkdir(self.temporary, 0o711)
+        copy = ""
+        for number, (names, words) in enumerate(parts(self.program)):
+            copy = f"{self.room}/{number}"
+            copy_crates(names, copy)
+            self.prove(copy, words)
+        return f"{copy}/crates/{self.program.crate}/out/{self.program.crate}"
+
+    def prove(self, copy, words):
+        """Proves the crates of a copy."""
         run = subprocess.Popen(
-            ["rt", "ci"], cwd=self.copy, env=self.environment, stdin=subprocess.DEVNULL, stdout=subprocess.PIPE, stderr=subprocess.STDOUT,
-            text=True, errors="replace", start_new_session=True,
+            ["rt", "ci"], cwd=copy, env={**os.environ, **words, "TMPDIR": self.temporary}, stdin=subprocess.DEVNULL, stdout=subprocess.PIPE,
+            stderr=subprocess.STDOUT, text=True, errors="replace", start_new_session=True,
         )
         try:
             for line in lines_of(run):
@@ -177,7 +203,6 @@ class Build:
             # All that it has started ends with it.
             run.terminate()
             run.wait()
-        return f"{self.copy}/crates/{self.program.crate}/out/{self.program.crate}"
 
 
 def warn_of_the_kit():
@@ -202,7 +227,7 @@ def begin(program):
 
 def prove(program):
     """Builds the program, while no other run of this works in the repository."""
-    environment = {**os.environ, **jobs()}
+    jobs()
     warn_of_the_kit()
     with open(f"{TOP}/crates.txt", encoding="utf-8") as lock:
         try:
@@ -217,7 +242,7 @@ def prove(program):
         begun = program.begin()
         with tempfile.TemporaryDirectory(prefix="bench-build-") as room:
             try:
-                run = Build(program, room, environment)
+                run = Build(program, room)
                 program.take(True, run.run(), begun)
                 tell(f"{program.called} is proved and built, in {run.minutes()} minutes")
             except (Failed, OSError) as why:

@@ -39,17 +39,24 @@ class Begun(NamedTuple):
 
 
 class Program(NamedTuple):
-    """A program: its crate, what it is called, how long its proofs and its compilation take, and what the proofs take of a disk."""
+    """A program: its crate, what it is called, how long its proofs and its compilation take, what the proofs take of a disk, and the crate
+    from which on they come one after another."""
 
     crate: str
     called: str
     proofs: str
     compilation: str
     gigabytes: int
+    last: str
 
     @property
     def crates(self):
         return crates_below([self.crate])
+
+    @property
+    def first_crates(self):
+        """Returns the crates that do not stand on the last ones."""
+        return [it for it in self.crates if self.last not in crates_below([it])]
 
     def lines(self):
         """Returns the lines of crates.txt that the program is built by."""
@@ -107,5 +114,5 @@ def is_newer(crate, start):
     return False
 
 
-WHOLE = Program("bench", "the whole program", "50 minutes on four processors, 90 on two", "four to six minutes", 6)
-SMALL = Program("bench_small", "the small program", "25 minutes on four processors, 35 on two", "one to two minutes", 3)
+WHOLE = Program("bench", "the whole program", "70 minutes on four processors, 130 on two", "four to six minutes", 6, "crash_recoveries")
+SMALL = Program("bench_small", "the small program", "35 minutes on four processors, 50 on two", "one to two minutes", 3, "kernel_step")
