@@ -7,7 +7,8 @@ A page is README.md, CHANGES.md or a file docs/*.md. Of each it finds links to f
 heading has, pictures .svg that no case prints, and sentences of more than 35 words. Of the pages that show the commands it also finds blocks ```text that no case of
 crates/test_runner/data/*.sessions has, and no example: what is shown there is what the merge gate compares. A form, with words that stand
 for others, is in a plain block. A block that begins with `$ ./bench` shows commands, each with all that it prints and says. Of the map in docs/ARCHITECTURE.md it finds rows that are not by crates.txt: another group, or another
-list of direct dependencies. Of README.md and docs/DEFINITIONS.md it finds wrong numbers of lines of definitions. It finds a VERSION that the program does not print. With --comments it also
+list of direct dependencies. Of README.md and docs/DEFINITIONS.md it finds wrong numbers of lines of definitions. Of a table of options, which follows a line
+`<!-- options of COMMAND -->`, it finds the first line that is not as the command says it. It finds a VERSION that the program does not print. With --comments it also
 finds such sentences in the comments `//!` and `///` of crates/*/src. With file names, it checks these alone: pages, and comments of
 files `.rt`.
 
@@ -18,6 +19,8 @@ full stop, and also where its paragraph, its list item, its heading or its table
 import argparse
 import collections
 import glob
+import importlib
+import itertools
 import os
 import re
 import signal
@@ -27,6 +30,8 @@ import urllib.parse
 sys.dont_write_bytecode = True
 
 from specified import counts
+
+command_pages = importlib.import_module("command-pages")
 
 MOST_WORDS = 35
 # The pages whose blocks of text stand in cases or examples.
@@ -305,6 +310,16 @@ def findings_of_code(page):
             yield text[: it.start()].count("\n") + 1, f"{' and '.join(it.groups())} lines of code, by tools/specified.py {found[0]:,} and {found[1]:,}"
 
 
+def findings_of_tables(page):
+    """Finds tables of options that are not their command's, by the first line that differs."""
+    for start, command, told, wanted in command_pages.tables_of("".join(f"{it}\n" for _, it in numbered_lines(page))):
+        for place, (line, want) in enumerate(itertools.zip_longest(told, wanted)):
+            if line != want:
+                says = want or "no further line"
+                yield start + place, f"an option table that is not the command's (tools/command-pages.py tables); {command} says: {says}"
+                break
+
+
 class Pages:
     def __init__(self):
         self.anchors = {}
@@ -348,6 +363,7 @@ class Pages:
             for line, text in texts_of(numbered_lines(page)):
                 if not is_in_cases(text, cases) and "\n" + "\n".join(text) + "\n" not in f"\n{examples}":
                     yield line, "a text that no case has"
+        yield from findings_of_tables(page)
         if page == MAP and os.path.isfile(CRATES):
             yield from Crates(CRATES).findings(page)
         if page in COUNTING:

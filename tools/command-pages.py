@@ -3,10 +3,12 @@
 
     command-pages.py man|bash|zsh
     command-pages.py table COMMAND
+    command-pages.py tables      writes each table of docs/*.md anew that follows a line <!-- options of COMMAND -->
 
 All are made of what `bench --help` and `bench COMMAND --help` print, as tools/command_words.py reads it; no build is needed. The man
-page is dated by SOURCE_DATE_EPOCH, if that is set. The table also says what an option needs and excludes, by the rules of the command's row
-in crates/command_line/src/command.rt."""
+page is dated by SOURCE_DATE_EPOCH, if that is set. The table also says what an option needs and excludes, by the command's rules
+in crates/command_line/src/table.rt."""
+import glob
 import os
 import re
 import sys
@@ -16,8 +18,10 @@ sys.dont_write_bytecode = True
 
 from command_words import TOP, Row, helps
 
-COMMANDS = f"{TOP}/crates/command_line/src/command.rt"
-RULE = re.compile(r'(Needs|Without|Excludes)\(\s*"([^"]*)",\s*(?:"([^"]*)"|(\w+))(?:,\s*"([^"]*)")?')
+COMMANDS = f"{TOP}/crates/command_line/src/table.rt"
+RULE = re.compile(r"^  (.*) \[(needs|cannot be used with|cannot be used without)\] ([^,\n]*)(.*)$", re.MULTILINE)
+TABLE = re.compile(r"^(<!-- options of (\w+) -->\n)((?:\|.*\n)*)", re.MULTILINE)
+MANY = {"IMAGE": "more than one image", "PROGRAM": "more than one program"}
 # What each exit status says, in short; docs/SCRIPTS.md has all.
 STATUSES = (
     ("0", "Done."),
@@ -145,14 +149,12 @@ _bench "$@"
 def bounds_of(command):
     """Returns, by its name, the other options that each option of a command needs, and those that it is not used with."""
     with open(COMMANDS, encoding="utf-8") as file:
-        text = file.read()
-    row = text.partition(f'says: "{command}: ')[2].partition("says: ")[0]
-    lists = dict(re.findall(r'const (\w+): &str = "([^"]*)"', text))
+        row = re.search(rf'(?:# |"){command}: (.*?)(?=\n# |";)', file.read(), re.DOTALL)[1]
     needs, excludes = {}, {}
-    for rule, one, other, listed, more in RULE.findall(row):
-        for first in one.split(" "):
-            for second in (other or lists[listed]).split(" "):
-                if rule == "Excludes":
+    for ones, words, others, more in RULE.findall(row):
+        for first in ones.split(" "):
+            for second in others.split(" "):
+                if words == "cannot be used with":
                     excludes.setdefault(first, []).append(second)
                     excludes.setdefault(second, []).append(first)
                 else:
@@ -163,16 +165,32 @@ def bounds_of(command):
 def table(command, it):
     """Returns a page's table of the options of a command."""
     own = [row for row in it.rows["Options"] if row.name not in ("--explain", "--help")]
-    forms = {row.name.removeprefix("--"): f"`{row.form}`" for row in own} | {"IMAGE": "more than one image"}
+    forms = {row.name: f"`{row.form}`" for row in own} | MANY
     needs, excludes = bounds_of(command)
     lines = ["| Option | Default | Says | Needs, excludes |", "|---|---|---|---|"]
     for row in own:
-        name, (says, _, default) = row.name.removeprefix("--"), row.about.partition(" [default: ")
+        name, (says, _, default) = row.name, row.about.partition(" [default: ")
         told = [f"needs {forms[other]}{more}" for other, more in needs.get(name, ())]
         if name in excludes:
             told.append(f"not with {', '.join(forms[other] for other in excludes[name])}")
         lines.append(f"| {forms[name]} | {default.removesuffix(']')} | {says} | {'; '.join(told)} |")
     return "\n".join(lines) + "\n"
+
+
+def tables_of(text):
+    """Yields each table of options in a page: its first line, its command, and its lines as they are and as they are to be."""
+    for it in TABLE.finditer(text):
+        yield text.count("\n", 0, it.start(3)) + 1, it[2], it[3].splitlines(), table(it[2], helps()[1][it[2]]).splitlines()
+
+
+def write_tables():
+    for path in glob.glob(f"{TOP}/docs/*.md"):
+        with open(path, encoding="utf-8") as file:
+            text = file.read()
+        new = TABLE.sub(lambda it: it[1] + table(it[2], helps()[1][it[2]]), text)
+        if new != text:
+            with open(path, "w", encoding="utf-8") as file:
+                file.write(new)
 
 
 def main(words):
@@ -182,6 +200,8 @@ def main(words):
         sys.stdout.write(makers[words[0]](program, commands))
     elif len(words) == 2 and words[0] == "table" and words[1] in commands:
         sys.stdout.write(table(words[1], commands[words[1]]))
+    elif words == ["tables"]:
+        write_tables()
     else:
         sys.exit(__doc__)
 

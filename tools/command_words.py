@@ -151,8 +151,8 @@ class Unknown(Exception):
 class Level:
     """The program, or one of its commands, and the words for it that were read."""
 
-    def __init__(self, name, said, others=None):
-        self.name, self.help, self.others, self.given, self.files = name, said, others or {}, [], []
+    def __init__(self, name, said, commands):
+        self.name, self.help, self.commands, self.given, self.files = name, said, commands, [], []
 
     def usage(self, used=(), is_short=False):
         """Returns the usage that a message ends with: by the options used in place of all, unless the command has a usage by hand."""
@@ -161,19 +161,20 @@ class Level:
         return " ".join([f"bench {self.name}", *dict.fromkeys(used), *(row.form for row in self.help.places)])
 
     def unknown(self, option, rest=None):
-        """Refuses an option that there is not, with the one that may be meant; those of the commands among the rest, too."""
-        message, used = f"unexpected argument '{option}' found", list(self.given)
+        """Refuses an option that there is not: with the commands that have it, with the one that may be meant, or before a command with
+        that of a command among the rest."""
         names = [] if rest is None else self.help.alike(option)
-        of_commands = [(it, self.others[it].alike(option)) for it in rest or () if it in self.others]
-        of_commands = [f"{it} {found[-1]}" for it, found in of_commands if found]
-        if names:
-            message += f"\n\n  tip: a similar argument exists: '{names[-1]}'"
-            used.append(self.help.options[names[-1]].form)
-        elif of_commands:
-            message += f"\n\n  tip: '{of_commands[0]}' exists"
-        elif self.help.places:
-            message += f"\n\n  tip: to pass '{option}' as a value, use '-- {option}'"
-        raise Refused(message, self.usage(*((used, bool(self.files)) if rest is not None else ())))
+        having = [name for name, it in self.commands.items() if option in it.options]
+        of_rest = [(it, self.commands[it].alike(option)) for it in rest or () if it in self.commands]
+        of_rest = [f"{it} {found[-1]}" for it, found in of_rest if found]
+        tip = ""
+        if having and self.name:
+            tip = f"\n\n  tip: '{option}' is an option of {', '.join(having)}"
+        elif names:
+            tip = f"\n\n  tip: a similar argument exists: '{names[-1]}'"
+        elif of_rest and not self.name:
+            tip = f"\n\n  tip: '{of_rest[0]}' exists"
+        raise Refused(f"unexpected argument '{option}' found{tip}", self.usage())
 
     def read_option(self, words):
         """Reads an option and its value; returns help or the version, if it asks for that."""
@@ -250,7 +251,7 @@ def read_words(words):
     name = words.pop(0)
     if name == "help":
         if words and words[0] in (*commands, "help"):
-            level = Level(words[0], commands.get(words[0]) or help_of(cases_of_help()["help help"]))
+            level = Level(words[0], commands.get(words[0]) or help_of(cases_of_help()["help help"]), commands)
         rest = words[1:] if level.name else words
         if rest:
             raise Refused(f"unrecognized subcommand '{rest[0]}'", level.usage(), level.name != "help")
@@ -259,7 +260,7 @@ def read_words(words):
         names = alike(name, [*commands, "help"])
         tip = f"\n\n  tip: {'a similar subcommand exists' if len(names) == 1 else 'some similar subcommands exist'}: " if names else ""
         raise Refused(f"unrecognized subcommand '{name}'{tip}{', '.join(map(repr, names))}", level.usage())
-    return Level(name, commands[name]).read(words)
+    return Level(name, commands[name], commands).read(words)
 
 
 def command_in(words):
@@ -282,6 +283,14 @@ def answer(words):
     """Returns what bench says without doing anything, or None."""
     said = read(words)
     return said if isinstance(said, Said) else None
+
+
+def is_bare(words):
+    """Returns whether a refusal of what the words ask for is a bare line, which says why only with --explain."""
+    level = read(words)
+    if not isinstance(level, Level) or "--live" in level.given:
+        return False
+    return level.name in ("replay", "run", "asm", "list", "debug") or level.name == "disk" and len(level.files) == 1
 
 
 def missing_file(words):

@@ -79,6 +79,7 @@ PARTS = {
         "the commands of README.md in a fresh clone, in order", "python3 tools/try-readme.py", says=r"(\d+) commands, (\d+) failed",
     ),
     "texts": Part("the texts of bench page, as they stand in the code", "python3 tools/page-texts.py --check"),
+    "words": Part("the words of the assembler in examples/ci/bench.vim", "python3 tools/vim-syntax.py --check"),
     "launcher": Part(
         "random words, by the launcher and by the program", "python3 tools/try-launcher.py --bench {bench} --count {count} --seed {seed}", (), 500,
         says=r"(\d+) \D+, (\d+) wrong",
@@ -133,9 +134,9 @@ PARTS = {
         ("chromium", "chromium-driver", "python3-selenium"), 10, says=r"(\d+) pages, (\d+) faults",
     ),
     "builds": Part(
-        "programs in C by each compiler that examples/c/build.sh names", "crates/test_runner/data/c/builds.sh",
+        "programs in C by each compiler that examples/c/build.sh names", "env BENCH={bench} crates/test_runner/data/c/builds.sh",
         (
-            "gcc-riscv64-unknown-elf", "picolibc-riscv64-unknown-elf", "clang", "lld", "llvm", "qemu-user", "gdb-multiarch",
+            "gcc", "gcc-riscv64-unknown-elf", "picolibc-riscv64-unknown-elf", "clang", "lld", "llvm", "qemu-user", "gdb-multiarch",
         ),
     ),
     "compilers": Part(
@@ -144,7 +145,7 @@ PARTS = {
     ),
 }
 # The parts that run no program.
-ALONE = ("pages", "texts", "mutants")
+ALONE = ("pages", "texts", "words", "mutants")
 
 
 def say(text):

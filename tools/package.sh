@@ -63,7 +63,7 @@ chmod 755 "$tree/bin/bench"
 git -C "$top" archive HEAD crates/test_runner/data/examples | tar -x -C "$room"
 cp -R "$room/crates/test_runner/data/examples" "$share/examples"
 # The parts that build programs in C, also where one looks for them; and the program under the name that the pages give.
-for part in build.sh calls.h image.ld start.s library.c picolibc.c; do
+for part in build.sh calls.h image.ld start.s library.c picolibc.c posix.c posix; do
     ln -s "examples/c/$part" "$share/$part"
 done
 ln -s ../../bin/bench "$share/bench"

@@ -1,11 +1,12 @@
 #!/usr/bin/env python3
 """Runs cases of `.sessions` by a program's file, as a person would at a command line, and says which came out otherwise.
 
-    try-sessions.py [--within ROOT] PROGRAM FILE..
+    try-sessions.py [--within ROOT] PROGRAM [FILE..]
 
-The merge gate has `test_runner` run these cases inside itself. Here each line with `$` is a run of PROGRAM of its own, in a copy of
-the cases' folder; with --within PROGRAM, and the folder, stand in another root, as a package was installed there (which chroot
-wants to be root for). The notation stands in crates/case_format/src/sessions.rt."""
+The merge gate has `test_runner` run these cases inside itself. Here each line with `$` is a run of PROGRAM of its own. All files, or
+all those of the gate, are played one after another in one copy of the cases' folder, as `test_runner` does: so what a case leaves there
+disturbs later ones here too. With --within PROGRAM, and the folder, stand in another root, as a package was installed there (which
+chroot wants to be root for). The notation stands in crates/case_format/src/sessions.rt."""
 import argparse
 import os
 import re
@@ -133,7 +134,7 @@ def fault_of_file(place, mark, name, held):
         with open(path, "wb") as it:
             it.write(held)
     elif mark == "remove":
-        os.remove(path)
+        (os.rmdir if os.path.isdir(path) else os.remove)(path)
     elif mark == "missing":
         return [f"{name} is there"] if os.path.exists(path) else []
     elif mark == "holds":
@@ -144,15 +145,21 @@ def fault_of_file(place, mark, name, held):
     return []
 
 
+def files_of_the_gate():
+    """Returns the files of sessions in the order in which the gate plays them."""
+    with open(f"{TOP}/crates/test_runner/args", encoding="utf-8") as args:
+        return [f"{DATA}/{it}" for it in args.read().split() if it.endswith(".sessions")]
+
+
 def main():
-    words = argparse.ArgumentParser(usage="try-sessions.py [--within ROOT] PROGRAM FILE..")
+    words = argparse.ArgumentParser(usage="try-sessions.py [--within ROOT] PROGRAM [FILE..]")
     words.add_argument("--within", default="")
     words.add_argument("program")
-    words.add_argument("files", nargs="+")
+    words.add_argument("files", nargs="*")
     given = words.parse_args()
     runs = failed = 0
-    for path in given.files:
-        place = Place(given.program, os.path.realpath(given.within) if given.within else "")
+    place = Place(given.program, os.path.realpath(given.within) if given.within else "")
+    for path in given.files or files_of_the_gate():
         with open(path, encoding="utf-8") as it:
             lines = it.read().split("\n")
         for step in steps_of(lines):
@@ -161,7 +168,7 @@ def main():
             for what in wrong:
                 print(f"{os.path.basename(path)}: {step.words if isinstance(step, Run) else step[0]}: {what[:400]}", flush=True)
             failed += bool(wrong)
-        shutil.rmtree(place.folder)
+    shutil.rmtree(place.folder)
     print(f"{runs} runs, {failed} faults")
     return 1 if failed else 0
 

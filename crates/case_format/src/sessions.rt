@@ -11,7 +11,7 @@
 //!   - without `!` it ends with status 0 and says nothing on standard error;
 //! - `file NAME`, and lines `| TEXT` after it: a file of these lines is written;
 //! - `bytes NAME PARTS`: a file of these bytes, in hexadecimal, as `41+00*3`, or of none for `-`;
-//! - `remove NAME`: the file is removed;
+//! - `remove NAME`: the file is removed, or the folder, in which nothing is left;
 //! - `holds NAME PARTS`: the file has these bytes; `missing NAME`: there is no such file.
 //!
 //! In input `\t`, `\r`, `\s`, `\x03` and `\xff` stand for a tab, a carriage return, a blank and the bytes 03 and ff. Empty lines and

@@ -1,7 +1,6 @@
 //! `parse`: reads the words of the command line as a task.
-use crate::command::{command_rows, row_named};
-use crate::given::Given;
-use crate::rules::refusal;
+use crate::rows::{Row, row_named, table_rows};
+use crate::rules::{Broken, first_broken};
 use crate::task::{Task, task_of};
 use clap::error::ErrorKind;
 use clap::{Arg, ArgAction, ArgMatches, Command, Error};
@@ -9,9 +8,6 @@ use std::alloc::{AllocError, Global};
 
 /// Which bench it is, as the file VERSION at the root says.
 const VERSION: &str = "0.1.0";
-
-/// The option of every command that has reasons told.
-const EXPLAIN: &str = "explain";
 
 /// What the words of a command line ask for.
 #[derive(Drop)]
@@ -21,21 +17,22 @@ pub struct Arguments<'a> {
     pub explain: bool,
 }
 
-/// The program, with its commands. Its usage begins with its name, so that it can be pasted.
-fn program<'a>(alloc: Global) -> Result<Command<'a>, AllocError> {
-    let mut commands = Vec::new(alloc);
-    for rows in command_rows() {
-        for row in rows {
-            commands.push(row.command(alloc)?)?;
-        }
-    }
-    // It may stand before the command or among its options, and in a help just before `--help`, whose place is 999.
-    let explain = Arg::new(alloc, EXPLAIN)
-        .long(EXPLAIN)
+/// An option of every command. It may stand before the command too, and in a help just before `--help`, whose place is 999.
+fn explain<'a>(alloc: Global) -> Arg<'a> {
+    Arg::new(alloc, "explain")
+        .long("explain")
         .help("say of a refusal, or a trap, which file it is and why")
         .action(ArgAction::SetTrue)
         .global(true)
-        .display_order(998);
+        .display_order(998)
+}
+
+/// The program, with its commands. Its usage begins with its name, so that it can be pasted.
+fn program<'a>(alloc: Global, rows: &[Row]) -> Result<Command<'a>, AllocError> {
+    let mut commands = Vec::new(alloc);
+    for row in rows {
+        commands.push(row.command(alloc)?)?;
+    }
     Command::new(alloc, "bench")
         .about(
             "A RISC-V bench on an externally synchronous kernel; without a command, the script on standard input is replayed",
@@ -45,63 +42,84 @@ fn program<'a>(alloc: Global) -> Result<Command<'a>, AllocError> {
         .no_binary_name(true)
         .subcommand_required(true)
         .bin_name("bench")?
-        .arg(explain)?
+        .arg(explain(alloc))?
         .subcommands(commands)
 }
 
-/// What the command of this name asks for with its arguments. None if there is no such command.
+/// Why words that keep the rules ask for nothing.
+fn words_refused(command: &str) -> &'static str {
+    match command {
+        "disk" => "these words are none of the forms of this command",
+        "run" | "debug" => "there are more than 8 images",
+        _ => "there are more than 8 programs",
+    }
+}
+
 fn asked_of<'a>(
     alloc: Global,
-    name: &str,
+    row: &Row,
     matches: &ArgMatches<'a>,
-) -> Result<Option<Arguments<'a>>, Error> {
-    let Some(row) = row_named(name) else {
-        return Ok(None);
+) -> Result<Arguments<'a>, Error> {
+    let broken = match first_broken(row, matches) {
+        Some(broken) => broken,
+        None => {
+            let explain = matches.get_flag("explain");
+            match task_of(alloc, row.name, matches)? {
+                Some(task) => return Ok(Arguments { task, explain }),
+                None => Broken::Words(words_refused(row.name)),
+            }
+        }
     };
-    let given = Given { row, matches };
-    if let Some(error) = refusal(alloc, &given)? {
-        return Err(error);
-    }
-    let explain = given.flag(EXPLAIN);
-    match task_of(alloc, &given)? {
-        Some(task) => Ok(Some(Arguments { task, explain })),
-        None => Ok(None),
-    }
+    let message = format!(in alloc; "{broken}")?;
+    let mut command = row.command(alloc)?;
+    Err(command.error(ErrorKind::ValueValidation, message.as_str())?)
 }
 
-/// The message in the text of a refusal, without what stands round it.
-fn message_of(text: &str) -> Option<&str> {
-    let (message, _rest) = text.strip_prefix("error: ")?.split_once("\n\n")?;
-    Some(message)
-}
-
-/// A refusal with the usage of its command. If an option has no value, the library leaves the usage out.
-fn with_usage(alloc: Global, words: &[String], error: Error) -> Result<Error, AllocError> {
-    if error.kind() != ErrorKind::InvalidValue {
-        return Ok(error);
-    }
-    let text = format!(in alloc; "{error}")?;
-    for word in words {
-        if !word.starts_with('-') {
-            return match (row_named(word.as_str()), message_of(text.as_str())) {
-                (Some(row), Some(message)) => row.command(alloc)?.error(error.kind(), message),
-                _ => Ok(error),
-            };
+fn commands_with(alloc: Global, rows: &[Row], option: &str) -> Result<String, AllocError> {
+    let mut names = String::new(alloc);
+    for row in rows {
+        if row.argument(option).is_some() {
+            names.push_str(if names.is_empty() { "" } else { ", " })?;
+            names.push_str(row.name)?;
         }
     }
-    Ok(error)
+    Ok(names)
 }
 
-/// What the words ask for, if a command is among them.
-fn asked_for<'a>(
+/// The message in the text of a refusal by the library. Its tip is which commands have the option that this one has not, or the library's,
+/// unless that is that the option may be a value.
+fn message_of(alloc: Global, rows: &[Row], text: &str) -> Result<String, AllocError> {
+    let (message, rest) = text.split_once("\n\n").unwrap_or((text, ""));
+    let message = message.strip_prefix("error: ").unwrap_or(message);
+    let (tip, _usage) = rest.split_once("\n\n").unwrap_or((rest, ""));
+    let option = message.split('\'').nth(1).unwrap_or("");
+    let commands = commands_with(alloc, rows, option)?;
+    if !commands.is_empty() && message.starts_with("unexpected ") {
+        format!(in alloc; "{message}\n\n  tip: '{option}' is an option of {commands}")
+    } else if tip.starts_with("  tip: ") && !tip.starts_with("  tip: to pass ") {
+        format!(in alloc; "{message}\n\n{tip}")
+    } else {
+        String::from_str(alloc, message)
+    }
+}
+
+/// A refusal by the library in the words of this program, with the usage of its command.
+fn reworded(
     alloc: Global,
-    program: &mut Command<'a>,
-    words: &'a [String],
-) -> Result<Option<Arguments<'a>>, Error> {
-    let matches = program.try_get_matches_from_mut(words)?;
-    match matches.subcommand() {
-        Some((name, matches)) => asked_of(alloc, name, matches),
-        None => Ok(None),
+    rows: &[Row],
+    words: &[String],
+    error: Error,
+) -> Result<Error, AllocError> {
+    let first = words.iter().find(|word| word.as_str() != "--explain");
+    let row = first.and_then(|word| row_named(rows, word.as_str()));
+    match (row, error.kind()) {
+        (Some(row), ErrorKind::InvalidValue | ErrorKind::UnknownArgument) => {
+            let text = format!(in alloc; "{error}")?;
+            let message = message_of(alloc, rows, text.as_str())?;
+            let mut command = row.command(alloc)?.arg(explain(alloc))?;
+            command.error(error.kind(), message.as_str())
+        }
+        _ => Ok(error),
     }
 }
 
@@ -114,10 +132,16 @@ pub fn parse<'a>(alloc: Global, words: &'a [String]) -> Result<Arguments<'a>, Er
             explain: false,
         });
     }
-    let mut program = program(alloc)?;
-    match asked_for(alloc, &mut program, words) {
-        Ok(Some(asked)) => Ok(asked),
-        Ok(None) => Err(program.error(ErrorKind::InvalidSubcommand, "no such command")?),
-        Err(error) => Err(with_usage(alloc, words, error)?),
+    let rows = table_rows(alloc)?;
+    let mut program = program(alloc, rows.as_slice())?;
+    let matches = match program.try_get_matches_from_mut(words) {
+        Ok(matches) => matches,
+        Err(error) => return Err(reworded(alloc, rows.as_slice(), words, error)?),
+    };
+    if let Some((name, matches)) = matches.subcommand()
+        && let Some(row) = row_named(rows.as_slice(), name)
+    {
+        return asked_of(alloc, row, matches);
     }
+    Err(program.error(ErrorKind::InvalidSubcommand, "no such command")?)
 }

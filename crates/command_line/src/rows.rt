@@ -1,146 +1,184 @@
-//! The types of the table of commands, and what the library for command lines is told of a row.
-use crate::rows::Rule::Number;
-use crate::task::DISK_USAGE;
+//! What the table says of a command: its arguments and its rules, and the command as the library for command lines knows it.
+use crate::options::{model_named, part_of, tape_of};
+use crate::table::{COMMANDS, DISK_USAGE};
 use clap::{Arg, ArgAction, Command};
-use kernel_model::MOST_PROGRAMS;
+use input_reading::decimal;
 use std::alloc::{AllocError, Global};
+use std::fmt;
 
-/// How an argument is written, then `: ` and its help. `NAME` is a word at its place, which has to be there; `NAME..8` up to 8 of them,
-/// and `NAME..` any number. `--name` is an option without a value, `--name <VALUE>` one with a value, and with `..` after it one that may
-/// be repeated. A command is written by its name. Rules name an option without its `--`.
 pub type Text = &'static str;
 
-/// What the words of a command have to meet.
+/// An argument of a command: an option, or a word at its place. It prints as a refusal names it.
 #[derive(Clone, Copy)]
-pub enum Rule {
-    /// The option's value is a decimal number from the first to the second. The third is its default, if it has one.
-    Number(Text, u64, u64, Option<Text>),
-    /// The option's value is one of these.
-    Choice(Text, Text, Text, Text, Text),
-    /// The option's value is I/N with 1 <= I <= N <= 9999, which the second text says.
-    Part(Text, Text),
-    /// A tape has one file at most, and standard input is on one tape at most.
-    Tapes,
-    /// Each of the first options, named with blanks between them, needs the second. The third text says more of it.
-    Needs(Text, Text, Text),
-    /// The first option excludes each of the second ones; `IMAGE` among them is more than one image.
-    Excludes(Text, Text),
-    /// Each of the first options means nothing without the second.
-    Without(Text, Text),
-    /// The option's value is not standard input.
-    NotInput(Text),
-    /// There are at most so many words of the first name, called by the second, or the option is given.
-    Most(Text, usize, Text, Text),
-    /// Two words are different paths.
-    Differ(Text, Text),
-    /// The words are one of the forms of `disk`.
-    Forms,
+pub struct Argument {
+    pub name: Text,
+    pub is_option: bool,
+    /// Whether it has one value, or one each time that it is given, or none.
+    pub action: ArgAction,
+    /// How an option's value is called.
+    value: Text,
+    /// What the value has to be, if not any text. Of words, how one of them is called.
+    pub form: Text,
+    default: Option<Text>,
+    help: Text,
 }
 
-/// A command.
-pub struct CommandRow {
-    pub says: Text,
-    /// What stands at the end of the help.
-    pub example: Text,
-    pub arguments: &'static [Text],
-    /// In the order in which they are tested.
-    pub rules: &'static [Rule],
+#[derive(Drop)]
+pub struct Row {
+    pub name: Text,
+    about: Text,
+    example: Text,
+    pub arguments: Vec<Argument>,
+    pub rules: Vec<Text>,
 }
 
-/// How it is written, and the help.
-fn parts_of(text: &str) -> (&str, &str) {
-    text.split_once(": ").unwrap_or((text, ""))
-}
-
-/// The name, the value, if it has one, and what follows it, in how an option is written after its `--`.
-fn option_parts(option: &str) -> (&str, Option<&str>, &str) {
-    let Some((name, rest)) = option.split_once(" <") else {
-        return (option, None, "");
-    };
-    let (value, times) = rest.split_once('>').unwrap_or((rest, ""));
-    (name, Some(value), times)
-}
-
-/// An argument that is given by its place.
-fn placed<'a>(alloc: Global, written: &'a str) -> Arg<'a> {
-    let Some((name, most)) = written.split_once("..") else {
-        return Arg::new(alloc, written)
-            .required(true)
-            .action(ArgAction::Set);
-    };
-    let most = if most.is_empty() {
-        usize::MAX
-    } else {
-        MOST_PROGRAMS
-    };
-    let arg = Arg::new(alloc, name).required(true);
-    arg.num_args(1..=most).action(ArgAction::Append)
-}
-
-impl CommandRow {
-    pub fn name(&self) -> &'static str {
-        let (name, _about) = parts_of(self.says);
-        name
-    }
-
-    /// How the option of this name is written. All else is written as it is named.
-    pub fn written(&self, name: &'static str) -> &'static str {
-        for argument in self.arguments {
-            let (written, _help) = parts_of(*argument);
-            if let Some(option) = written.strip_prefix("--")
-                && option_parts(option).0 == name
-            {
-                return written;
-            }
-        }
-        name
-    }
-
-    fn default_of(&self, name: &str) -> Option<&'static str> {
-        for rule in self.rules {
-            if let Number(its_name, _, _, default) = *rule
-                && its_name == name
-            {
-                return default;
-            }
-        }
-        None
-    }
-
-    /// The argument of a text. Values are tested by the rules, once all words are known.
-    fn argument<'a>(&self, alloc: Global, text: &'a str) -> Arg<'a> {
-        let (written, help) = parts_of(text);
-        let Some(option) = written.strip_prefix("--") else {
-            return placed(alloc, written).help(help);
+impl Argument {
+    /// The argument of a line. None of a line that is a rule.
+    fn read(line: Text) -> Option<Argument> {
+        let (written, help) = line.split_once(": ")?;
+        let (written, default) = written.split_once(" [").unwrap_or((written, ""));
+        let option = written.strip_prefix("--");
+        let (name, value, action, form) = match (option, written.split_once("..")) {
+            (None, None) => (written, "", ArgAction::Set, ""),
+            (None, Some((name, form))) => (name, "", ArgAction::Append, form),
+            (Some(option), _) => match option.split_once(" <") {
+                None => (option, "", ArgAction::SetTrue, ""),
+                Some((name, rest)) => {
+                    let (value, form) = rest.split_once('>')?;
+                    match form.strip_prefix("..") {
+                        Some(form) => (name, value, ArgAction::Append, form),
+                        None => (name, value, ArgAction::Set, form),
+                    }
+                }
+            },
         };
-        let (name, value, times) = option_parts(option);
-        let arg = Arg::new(alloc, name).long(name).help(help);
-        let arg = match self.default_of(name) {
+        Some(Argument {
+            name,
+            is_option: option.is_some(),
+            action,
+            value,
+            form: form.trim_start(),
+            default: default.strip_suffix(']'),
+            help,
+        })
+    }
+
+    /// The least and the greatest number that its value may be, if it has to be a number.
+    pub fn range(&self) -> Option<(u64, u64)> {
+        let (least, most) = self.form.split_once("..")?;
+        Some((decimal(least)?, decimal(most).unwrap_or(u64::MAX)))
+    }
+
+    /// Whether its value may be this one.
+    pub fn takes(&self, value: &str) -> bool {
+        match (self.value, self.range(), decimal(value)) {
+            ("I/N", ..) => part_of(value).is_some(),
+            ("NAME", ..) => model_named(value).is_some(),
+            ("T=FILE", ..) => tape_of(value).is_some(),
+            (_, Some((least, most)), Some(number)) => least <= number && number <= most,
+            (_, range, _) => range.is_none(),
+        }
+    }
+
+    /// The argument for the library. Its value is tested once all words are known.
+    fn arg<'a>(&self, alloc: Global) -> Arg<'a> {
+        let arg = Arg::new(alloc, self.name).help(self.help);
+        let arg = match self.default {
             Some(default) => arg.default_value(default),
             None => arg,
         };
-        match value {
-            None => arg.action(ArgAction::SetTrue),
-            Some(value) if times.is_empty() => arg.value_name(value).action(ArgAction::Set),
-            Some(value) => arg.value_name(value).action(ArgAction::Append),
+        let arg = match (self.is_option, self.action) {
+            (false, ArgAction::Append) => arg.required(true).num_args(1..=usize::MAX),
+            (false, _) => arg.required(true),
+            (true, ArgAction::SetTrue) => arg.long(self.name),
+            (true, _) => arg.long(self.name).value_name(self.value),
+        };
+        arg.action(self.action)
+    }
+}
+
+impl fmt::Display for Argument {
+    fn fmt<W: fmt::Write>(&self, f: &mut fmt::Formatter<W>) -> fmt::Result {
+        let (name, value, form) = (self.name, self.value, self.form);
+        match (self.is_option, self.action) {
+            (false, ArgAction::Append) => write!(f, "more than one {form}"),
+            (false, _) => write!(f, "<{name}>"),
+            (true, ArgAction::SetTrue) => write!(f, "'--{name}'"),
+            (true, _) => write!(f, "'--{name} <{value}>'"),
         }
     }
+}
 
-    /// The command, with its arguments.
+impl Row {
+    /// The command of a paragraph of the table, which may name options of the commands before it.
+    fn read(alloc: Global, before: &[Row], text: Text) -> Result<Row, AllocError> {
+        let (head, lines) = text.split_once("\n  ").unwrap_or((text, ""));
+        let (lines, example) = lines.rsplit_once("\n  ").unwrap_or((lines, ""));
+        let (name, about) = head.split_once(": ").unwrap_or((head, ""));
+        let mut row = Row {
+            name,
+            about,
+            example,
+            arguments: Vec::new(alloc),
+            rules: Vec::new(alloc),
+        };
+        for line in lines.split("\n  ") {
+            row.add(before, line)?;
+        }
+        Ok(row)
+    }
+
+    fn add(&mut self, before: &[Row], line: Text) -> Result<(), AllocError> {
+        let Some((names, command)) = line.split_once(" as in ") else {
+            return match Argument::read(line) {
+                Some(argument) => Ok(self.arguments.push(argument)?),
+                None => Ok(self.rules.push(line)?),
+            };
+        };
+        for name in names.split(' ') {
+            if let Some(argument) = row_named(before, command).and_then(|it| it.argument(name)) {
+                self.arguments.push(argument)?;
+            }
+        }
+        Ok(())
+    }
+
+    /// The argument of this name, which has `--` before it if it is an option.
+    pub fn argument(&self, name: &str) -> Option<Argument> {
+        let option = name.strip_prefix("--");
+        let (name, is_option) = (option.unwrap_or(name), option.is_some());
+        let mut arguments = self.arguments.iter();
+        let found = arguments.find(|it| it.name == name && it.is_option == is_option);
+        found.copied()
+    }
+
+    /// The command for the library, with its arguments.
     pub fn command<'a>(&self, alloc: Global) -> Result<Command<'a>, AllocError> {
         let mut arguments = Vec::new(alloc);
-        for text in self.arguments {
-            arguments.push(self.argument(alloc, *text))?;
+        for argument in self.arguments.as_slice() {
+            arguments.push(argument.arg(alloc))?;
         }
-        let (name, about) = parts_of(self.says);
-        let whole = format!(in alloc; "bench {name}")?;
-        let command = Command::new(alloc, name)
-            .about(about)
+        let whole = format!(in alloc; "bench {}", self.name)?;
+        let command = Command::new(alloc, self.name)
+            .about(self.about)
             .after_help(self.example);
         let command = command.bin_name(whole.as_str())?.args(arguments)?;
-        if name == "disk" {
+        if self.name == "disk" {
             return Ok(command.override_usage(DISK_USAGE));
         }
         Ok(command)
     }
+}
+
+pub fn table_rows(alloc: Global) -> Result<Vec<Row>, AllocError> {
+    let mut rows = Vec::new(alloc);
+    for text in COMMANDS.split("\n# ") {
+        let row = Row::read(alloc, rows.as_slice(), text)?;
+        rows.push(row)?;
+    }
+    Ok(rows)
+}
+
+pub fn row_named<'r>(rows: &'r [Row], name: &str) -> Option<&'r Row> {
+    rows.iter().find(|row| row.name == name)
 }

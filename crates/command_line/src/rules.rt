@@ -1,159 +1,123 @@
-//! Tests what a command is given by the rules of its row, and refuses it by the first that is broken.
-use crate::given::Given;
-use crate::rows::{Rule, Text};
-use crate::tapes::{FaultyTape, TapePaths};
-use crate::task::disk_task;
-use clap::Error;
-use clap::error::ErrorKind;
-use input_reading::decimal;
-use std::alloc::{AllocError, Global};
+//! Tests the words of a command by its row of the table, and says what is wrong first.
+use crate::options::TapePaths;
+use crate::rows::{Argument, Row, Text};
+use clap::ArgMatches;
+use clap::parser::ValueSource;
 use std::fmt;
 
-/// The most parts of what is tried or searched.
-const MOST_PARTS: u64 = 9999;
-
-/// A rule that is broken. It prints as what is wrong.
+/// What is wrong. It prints as that.
 #[derive(Clone, Copy)]
-struct Broken<'a> {
-    rule: Rule,
-    /// How the option that breaks it is written, and its value.
-    one: Text,
-    value: &'a str,
-    /// How the other option is written, if there is one.
-    other: Text,
-    tape: Option<FaultyTape<'a>>,
+pub enum Broken<'a> {
+    /// An option, and its value, which its line does not allow.
+    Value(Argument, &'a str),
+    TapeTwice(usize),
+    TwoInputs,
+    InputTaken(Text),
+    SamePath(Text, Text),
+    /// Two arguments, with the words of their rule between them and after them.
+    Pair(Argument, Text, Argument, Text),
+    Words(Text),
 }
 
-/// Writes that options do not go together, or that words do not.
+/// Writes that two arguments do not go together, with the words of their rule between them and after them.
 fn write_pair<W: fmt::Write>(
     f: &mut fmt::Formatter<W>,
-    rule: &Rule,
-    one: &str,
-    other: &str,
+    (one, other): (Argument, Argument),
+    words: Text,
+    more: Text,
 ) -> fmt::Result {
-    let is_many = one == "IMAGE" || other == "IMAGE";
-    match rule {
-        Rule::Excludes(..) if is_many => {
-            write!(
-                f,
-                "the argument '{one}' cannot be used with more than one image"
-            )
-        }
-        Rule::Without(..) if is_many => {
-            write!(f, "more than one image cannot be used without '{other}'")
-        }
-        Rule::Needs(..) => write!(f, "'{one}' needs '{other}'"),
-        Rule::Excludes(..) => write!(f, "the argument '{one}' cannot be used with '{other}'"),
-        Rule::Without(..) => write!(f, "the argument '{one}' cannot be used without '{other}'"),
-        _ => write!(f, "<{one}> and <{other}> are the same path"),
+    if words != "needs" && one.is_option {
+        f.write_str("the argument ")?;
     }
+    write!(f, "{one} {words} {other}{more}")
 }
 
 impl fmt::Display for Broken<'_> {
     fn fmt<W: fmt::Write>(&self, f: &mut fmt::Formatter<W>) -> fmt::Result {
-        let (one, value, other) = (self.one, self.value, self.other);
-        if matches!(
-            self.rule,
-            Rule::Number(..) | Rule::Choice(..) | Rule::Part(..)
-        ) {
-            write!(f, "invalid value '{value}' for '{one}': it has to be ")?;
-        }
-        match self.rule {
-            Rule::Number(_, least, most, _) => write!(f, "a decimal number from {least} to {most}"),
-            Rule::Choice(_, a, b, c, d) => write!(f, "{a}, {b}, {c} or {d}"),
-            Rule::Part(_, form) => f.write_str(form),
-            Rule::Tapes => match self.tape {
-                Some(FaultyTape::Form(value)) => write!(
-                    f,
-                    "invalid value '{value}' for '--tape-of <T=FILE>': it has to be a number from 0 to 7, '=' and a file"
-                ),
-                Some(FaultyTape::Twice(tape)) => write!(f, "tape {tape} is given twice"),
-                _ => f.write_str("standard input is given to two tapes"),
-            },
-            Rule::NotInput(name) => write!(
+        match *self {
+            Broken::Value(option, value) => {
+                write!(f, "invalid value '{value}' for {option}: it has to be ")?;
+                match option.range() {
+                    Some((least, most)) => write!(f, "a decimal number from {least} to {most}"),
+                    None => f.write_str(option.form),
+                }
+            }
+            Broken::TapeTwice(tape) => write!(f, "tape {tape} is given twice"),
+            Broken::TwoInputs => f.write_str("standard input is given to two tapes"),
+            Broken::InputTaken(reader) => write!(
                 f,
-                "the argument '--{name} -' cannot be used here: standard input has the commands"
+                "the argument '--tape -' cannot be used here: standard input has {reader}"
             ),
-            Rule::Most(_, most, called, _) => write!(f, "there are more than {most} {called}"),
-            Rule::Forms => f.write_str("these words are none of the forms of this command"),
-            Rule::Needs(_, _, more) => {
-                write_pair(f, &self.rule, one, other)?;
-                f.write_str(more)
-            }
-            _ => write_pair(f, &self.rule, one, other),
+            Broken::SamePath(one, other) => write!(f, "<{one}> and <{other}> are the same path"),
+            Broken::Pair(one, words, other, more) => write_pair(f, (one, other), words, more),
+            Broken::Words(text) => f.write_str(text),
         }
     }
 }
 
-/// Whether a text is I/N with 1 <= I <= N <= 9999.
-fn is_part(text: &str) -> bool {
-    let (number, of) = text.split_once('/').unwrap_or(("", ""));
-    match (decimal(number), decimal(of)) {
-        (Some(number), Some(of)) => 1 <= number && number <= of && of <= MOST_PARTS,
-        _ => false,
-    }
+/// The value of an option, or a word; empty if there is none.
+pub fn text<'a>(matches: &ArgMatches<'a>, name: &str) -> &'a str {
+    matches.get_str(name).unwrap_or_default()
 }
 
-/// Whether a value is one of its option, by the option's rule.
-fn is_value(rule: Rule, value: &str) -> bool {
-    match rule {
-        Rule::Number(_, least, most, _) => match decimal(value) {
-            Some(number) => least <= number && number <= most,
-            None => false,
-        },
-        Rule::Choice(_, a, b, c, d) => value == a || value == b || value == c || value == d,
-        Rule::Part(..) => is_part(value),
-        _ => value != "-",
-    }
+/// All values of an option, or all words of a name.
+pub fn texts<'m, 'a>(matches: &'m ArgMatches<'a>, name: &str) -> &'m [&'a str] {
+    matches.get_strs(name).unwrap_or_default()
 }
 
-/// Whether a rule holds, the name of what breaks it, and that of the other option.
-fn tried(given: &Given<'_, '_>, rule: Rule) -> (bool, Text, Text) {
-    match rule {
-        Rule::Number(name, ..)
-        | Rule::Choice(name, ..)
-        | Rule::Part(name, _)
-        | Rule::NotInput(name) => {
-            match given.text(name) {
-                Some(value) => (is_value(rule, value), name, ""),
-                None => (true, name, ""),
-            }
-        }
-        Rule::Tapes => (TapePaths::read(given).1.is_none(), "", ""),
-        Rule::Needs(options, name, _) | Rule::Without(options, name) => match given.first(options) {
-            Some(option) => (given.has(name), option, name),
-            None => (true, "", ""),
-        },
-        Rule::Excludes(name, options) => match given.first(options) {
-            Some(option) => (!given.has(name), name, option),
-            None => (true, "", ""),
-        },
-        Rule::Most(name, most, _, any) => (
-            given.texts(name).len() <= most || given.has(any),
-            name,
-            "",
-        ),
-        Rule::Differ(one, other) => (given.word(one) != given.word(other), one, other),
-        Rule::Forms => (disk_task(given).is_some(), "", ""),
-    }
+/// Whether an option is on the command line.
+pub fn has(matches: &ArgMatches<'_>, name: &str) -> bool {
+    matches.value_source(name) == Some(ValueSource::CommandLine)
 }
 
-/// The refusal of what a command is given, with the command's usage, by the first rule that is broken.
-pub fn refusal(alloc: Global, given: &Given<'_, '_>) -> Result<Option<Error>, AllocError> {
-    for rule in given.row.rules {
-        let (holds, one, other) = tried(given, *rule);
-        if !holds {
-            let broken = Broken {
-                rule: *rule,
-                one: given.row.written(one),
-                value: given.word(one),
-                other: given.row.written(other),
-                tape: TapePaths::read(given).1,
-            };
-            let message = format!(in alloc; "{broken}")?;
-            let mut command = given.row.command(alloc)?;
-            return Ok(Some(command.error(ErrorKind::ValueValidation, message.as_str())?));
+/// The first of some arguments that is given; of words, if there are several. The model that holds without `--model` is as good as none.
+/// The names have blanks between them.
+fn first(row: &Row, matches: &ArgMatches<'_>, names: &str) -> Option<Argument> {
+    for name in names.split(' ') {
+        let argument = row.argument(name)?;
+        let is_given = has(matches, argument.name);
+        let is_one = !argument.is_option && texts(matches, argument.name).len() == 1;
+        let is_bench = name == "--model" && text(matches, "model") == "bench";
+        if is_given && !is_one && !is_bench {
+            return Some(argument);
         }
     }
-    Ok(None)
+    None
+}
+
+/// The first value of an option that its line does not allow.
+fn value_broken<'a>(matches: &ArgMatches<'a>, option: &Argument) -> Option<Broken<'a>> {
+    let mut values = texts(matches, option.name).iter();
+    let value = values.find(|it| !option.takes(it))?;
+    Some(Broken::Value(*option, value))
+}
+
+fn rule_broken(row: &Row, matches: &ArgMatches<'_>, rule: Text) -> Option<Broken<'static>> {
+    if let Some(reader) = rule.strip_prefix("standard input has ") {
+        let is_broken = TapePaths::read(matches).0.read_input();
+        return is_broken.then_some(Broken::InputTaken(reader));
+    }
+    if let Some((one, other)) = rule.split_once(" differs from ") {
+        let is_broken = text(matches, one) == text(matches, other);
+        return is_broken.then_some(Broken::SamePath(one, other));
+    }
+    let (ones, rest) = rule.split_once(" [")?;
+    let (words, others) = rest.split_once("] ")?;
+    let more = others.trim_start_matches(|it: char| it != ',');
+    let others = others.strip_suffix(more)?;
+    let one = first(row, matches, ones)?;
+    match (first(row, matches, others), words == "cannot be used with") {
+        (Some(other), true) => Some(Broken::Pair(one, words, other, more)),
+        (None, false) => Some(Broken::Pair(one, words, row.argument(others)?, more)),
+        _ => None,
+    }
+}
+
+/// What is wrong first: the value of an option, a tape, or a rule.
+pub fn first_broken<'a>(row: &Row, matches: &ArgMatches<'a>) -> Option<Broken<'a>> {
+    let mut values = row.arguments.iter();
+    let value = values.find_map(|it| value_broken(matches, it));
+    let mut rules = row.rules.iter();
+    let rule = rules.find_map(|it| rule_broken(row, matches, it));
+    value.or(TapePaths::read(matches).1).or(rule)
 }

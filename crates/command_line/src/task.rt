@@ -1,91 +1,46 @@
 //! `Task`: what the command line asks for.
-use crate::given::Given;
-use crate::run_options::{ExecOptions, ImagePaths, RunOptions, exec_options, run_options};
-use crate::search_options::{CrashOptions, ExploreOptions, crash_options, explore_options};
-use crate::session_options::{GdbOptions, LiveOptions, gdb_options, live_options};
+use crate::options::{
+    CrashOptions, ExecOptions, ExploreOptions, Explored, GdbOptions, ImagePaths, LiveOptions,
+    ModelName, OrderBounds, PageOptions, PartOf, PictureOptions, ProgramOptions, RunOptions,
+    TapePaths, model_named, part_of, run_numbers,
+};
+use crate::rules::{has, text, texts};
+use clap::ArgMatches;
 use std::alloc::{AllocError, Global};
 
-/// The forms of the command `disk`.
-pub const DISK_USAGE: &str =
-    "bench disk [OPTIONS] <FILE>\n       bench disk [OPTIONS] cat <FILE> <NAME>\n       bench disk [OPTIONS] put <FILE> <NAME> <FROM>\n       bench disk [OPTIONS] diff <FILE> <OTHER>";
-
-/// What is done with a disk.
+/// What is done with a disk: its file comes first.
 #[derive(Clone, Copy)]
 pub enum DiskTask<'a> {
-    /// List the files on it.
     List(&'a str),
-    /// Print a file on it.
-    Cat {
-        disk: &'a str,
-        name: &'a str,
-    },
-    /// Copy a file of the host onto it.
-    Put {
-        disk: &'a str,
-        name: &'a str,
-        from: &'a str,
-    },
-    /// Compare it with another one.
-    Diff {
-        first: &'a str,
-        second: &'a str,
-    },
+    /// Print the file of a name.
+    Cat(&'a str, &'a str),
+    /// Copy, under a name, a file of the host.
+    Put(&'a str, &'a str, &'a str),
+    Diff(&'a str, &'a str),
 }
 
-/// What the program is to do, a variant for each command.
+/// What the program is to do, a variant for each command. Files are named by their paths, and one that is written comes last.
 #[derive(Drop)]
 pub enum Task<'a> {
-    /// Replay the script on standard input.
     ReplayInput,
-    /// Replay the script of a file.
-    ReplayFile(&'a str),
-    /// Replay the script of a file, and print the cone of the event of a number.
-    ReplayCone {
-        script: &'a str,
-        event: u64,
-    },
-    /// Draw the run of the script of a file; the cone of an event, if one is given.
-    Picture {
-        script: &'a str,
-        cone: Option<u64>,
-    },
-    /// Make a page of the run of the script of a file, or print what the page has of it as JSON.
-    Page {
-        script: &'a str,
-        json: bool,
-        /// The paths of sources of its programs.
-        sources: Vec<&'a str>,
-    },
-    /// Try the crashes of programs, or of a script.
+    /// Replay a script, or print the cone of the event of a number.
+    Replay(&'a str, Option<u64>),
+    Picture(PictureOptions<'a>),
+    Page(PageOptions<'a>),
     Crashes(CrashOptions<'a>),
-    /// Find all outcomes of programs, whatever the order of their calls.
     Explore(ExploreOptions<'a>),
-    /// Assemble the source in a file to the image in another.
-    Assemble {
-        source: &'a str,
-        image: &'a str,
-    },
-    /// Say what is wrong with the source in a file.
+    Assemble(&'a str, &'a str),
     Check(&'a str),
-    /// Make an image of an executable that a linker wrote. Each is in a file of its own.
-    Image {
-        linked: &'a str,
-        image: &'a str,
-    },
-    /// Write what gdb is told of the source in a file, to another file.
-    Symbols {
-        source: &'a str,
-        symbols: &'a str,
-    },
-    /// List the words of the image in a file.
+    Image(&'a str, &'a str),
+    Symbols(&'a str, &'a str),
     List(&'a str),
-    /// Compare the logs in two files, and say where in a program they differ, if one is given.
+    /// Compare two logs, and say where in a program they differ, if its source is given.
     Diff {
         first: &'a str,
         second: &'a str,
         source: Option<&'a str>,
     },
-    /// Debug the image in a file, with the replies of the trace in another, or none, and beside its source, if it is given.
+    /// Debug an image, with the replies of a trace, or none, and beside its source, if it is given.
     Debug {
         image: &'a str,
         trace: Option<&'a str>,
@@ -93,112 +48,197 @@ pub enum Task<'a> {
     },
     /// Debug a process while a kernel answers its calls.
     DebugLive(LiveOptions<'a>),
-    /// Answer gdb, which debugs an image.
     Gdb(GdbOptions<'a>),
-    /// List a disk, copy its files, or compare it.
     Disk(DiskTask<'a>),
-    /// Run images.
     Run(RunOptions<'a>),
-    /// Run programs for people.
     Exec(ExecOptions<'a>),
 }
 
-/// What is done with a disk. None if the words are none of the forms.
-pub fn disk_task<'a>(given: &Given<'_, 'a>) -> Option<DiskTask<'a>> {
-    match given.texts("WORD") {
-        [disk] => Some(DiskTask::List(*disk)),
-        ["cat", disk, name] => Some(DiskTask::Cat {
-            disk: *disk,
-            name: *name,
-        }),
-        ["put", disk, name, from] => Some(DiskTask::Put {
-            disk: *disk,
-            name: *name,
-            from: *from,
-        }),
-        ["diff", first, second] => Some(DiskTask::Diff {
-            first: *first,
-            second: *second,
-        }),
-        _ => None,
-    }
-}
+/// The options of `exec` that have a run go by turns, on one thread.
+const BY_TURNS: [&str; 8] = [
+    "limit", "seed", "record", "picture", "log", "calls", "json", "profile",
+];
 
-/// What a command asks for that holds no list of paths. None of other commands.
-fn plain_task<'a>(given: &Given<'_, 'a>) -> Option<Task<'a>> {
-    let script = given.word("SCRIPT");
-    let source = given.word("SOURCE");
-    let image = given.word("IMAGE");
-    Some(match given.row.name() {
-        "replay" => match given.number("cone") {
-            Some(event) => Task::ReplayCone { script, event },
-            None => Task::ReplayFile(script),
-        },
-        "picture" => Task::Picture {
-            script,
-            cone: given.number("cone"),
-        },
-        "asm" => Task::Assemble { source, image },
+/// What a command asks for that holds no list of paths. None of other commands, and of a disk with words of no form.
+fn plain_task<'a>(command: &str, matches: &ArgMatches<'a>) -> Option<Task<'a>> {
+    let source = text(matches, "SOURCE");
+    let image = text(matches, "IMAGE");
+    let linked = text(matches, "ELF");
+    Some(match command {
+        "replay" => Task::Replay(text(matches, "SCRIPT"), matches.get_one("cone")),
+        "asm" => Task::Assemble(source, image),
         "check" => Task::Check(source),
-        "image" => Task::Image {
-            linked: given.word("ELF"),
-            image,
-        },
-        "symbols" => Task::Symbols {
-            source,
-            symbols: given.word("ELF"),
-        },
+        "image" => Task::Image(linked, image),
+        "symbols" => Task::Symbols(source, linked),
         "list" => Task::List(image),
         "diff" => Task::Diff {
-            first: given.word("A"),
-            second: given.word("B"),
-            source: given.text("source"),
+            first: text(matches, "A"),
+            second: text(matches, "B"),
+            source: matches.get_str("source"),
         },
-        "debug" if !given.flag("live") => Task::Debug {
+        "debug" if !matches.get_flag("live") => Task::Debug {
             image,
-            trace: given.text("trace"),
-            source: given.text("source"),
+            trace: matches.get_str("trace"),
+            source: matches.get_str("source"),
         },
-        "disk" => Task::Disk(disk_task(given)?),
+        "disk" => Task::Disk(match texts(matches, "WORD") {
+            [disk] => DiskTask::List(*disk),
+            ["cat", disk, name] => DiskTask::Cat(*disk, *name),
+            ["put", disk, name, from] => DiskTask::Put(*disk, *name, *from),
+            ["diff", disk, other] => DiskTask::Diff(*disk, *other),
+            _ => return None,
+        }),
         _ => return None,
     })
 }
 
-/// What a command asks for with these images. None of a command that takes none.
-fn task_of_images<'a>(given: &Given<'_, 'a>, images: ImagePaths<'a>) -> Option<Task<'a>> {
-    match given.row.name() {
-        "crashes" => Some(Task::Crashes(crash_options(given, images))),
-        "debug" => Some(Task::DebugLive(live_options(given, images))),
-        "gdb" => Some(Task::Gdb(gdb_options(given, images))),
-        "run" => Some(Task::Run(run_options(given, images)?)),
-        "exec" => Some(Task::Exec(exec_options(given, run_options(given, images)?))),
-        _ => None,
+/// How far orders are searched whose processes run so many instructions at most to their next call.
+fn bounds(matches: &ArgMatches<'_>, instructions: u32) -> OrderBounds {
+    OrderBounds {
+        instructions,
+        states: matches.get_one("most-states").unwrap_or_default(),
+        calls: matches.get_one("most-calls").unwrap_or_default(),
     }
 }
 
-/// What a command asks for with these paths.
-fn task_of_paths<'a>(given: &Given<'_, 'a>, paths: Vec<&'a str>) -> Option<Task<'a>> {
-    match given.row.name() {
-        "page" => Some(Task::Page {
-            script: given.word("SCRIPT"),
-            json: given.flag("json"),
-            sources: paths,
+fn crash_options<'a>(matches: &ArgMatches<'a>, programs: ProgramOptions<'a>) -> CrashOptions<'a> {
+    let limit: u64 = matches.get_one("limit").unwrap_or_default();
+    // A run of all orders counts up to the next call of a process, and has the limit of `explore`.
+    let instructions = if has(matches, "limit") {
+        limit.min(2_147_483_647) as u32
+    } else {
+        1_000_000
+    };
+    let orders = bounds(matches, instructions);
+    CrashOptions {
+        programs,
+        expect: matches.get_str("expect"),
+        recover: matches.get_str("recover"),
+        model: model_named(text(matches, "model")).unwrap_or(ModelName::Bench),
+        apart: matches.get_one("apart").unwrap_or_default(),
+        orders: matches.get_flag("all-orders").then_some(orders),
+        nested: matches.get_one("nested").unwrap_or_default(),
+        save: matches.get_str("save"),
+        limit,
+        jobs: matches.get_one("jobs"),
+        part: part_of(text(matches, "part")),
+        progress: matches.get_flag("progress"),
+    }
+}
+
+fn explore_options<'a>(matches: &ArgMatches<'a>, explored: Explored<'a>) -> ExploreOptions<'a> {
+    let part = part_of(text(matches, "part"));
+    ExploreOptions {
+        explored,
+        part: part.map(|it| PartOf {
+            number: u64::from(it.number),
+            of: u64::from(it.of),
         }),
-        "explore" => Some(Task::Explore(explore_options(given, paths))),
-        _ => task_of_images(given, ImagePaths::new(paths)?),
+        expect: matches.get_str("expect"),
+        save: matches.get_str("save"),
+        bounds: bounds(matches, matches.get_one("limit").unwrap_or_default()),
+        jobs: matches.get_one("jobs"),
+        progress: matches.get_flag("progress"),
     }
 }
 
-/// What a command and its arguments ask for. None only of arguments that its rules refuse.
-pub fn task_of<'a>(alloc: Global, given: &Given<'_, 'a>) -> Result<Option<Task<'a>>, AllocError> {
-    if let Some(task) = plain_task(given) {
+fn live_options<'a>(matches: &ArgMatches<'a>, programs: ProgramOptions<'a>) -> LiveOptions<'a> {
+    LiveOptions {
+        process: matches.get_one("process").unwrap_or(1),
+        programs,
+        disk: matches.get_str("disk"),
+        source: matches.get_str("source"),
+    }
+}
+
+/// The options of `run`, and those that `exec` has too. None where a number is out of range, which was refused before.
+fn run_options<'a>(
+    matches: &ArgMatches<'a>,
+    programs: ProgramOptions<'a>,
+) -> Option<RunOptions<'a>> {
+    let numbers = run_numbers(matches)?;
+    let ProgramOptions { paths, tapes } = programs;
+    Some(RunOptions {
+        numbers,
+        disk: matches.get_str("disk"),
+        is_durable: matches.get_flag("durable"),
+        tapes,
+        images: paths,
+        status: matches.get_one("status"),
+    })
+}
+
+fn exec_options<'a>(matches: &ArgMatches<'a>, run: RunOptions<'a>) -> ExecOptions<'a> {
+    let is_asked = run.is_durable || has(matches, "workers");
+    ExecOptions {
+        run,
+        is_threaded: is_asked && !BY_TURNS.iter().any(|it| has(matches, it)),
+        limit: matches.get_one("limit"),
+        seed: matches.get_one("seed"),
+        tells_calls: matches.get_flag("calls"),
+        is_json: matches.get_flag("json"),
+        record: matches.get_str("record"),
+        picture: matches.get_str("picture"),
+        log: matches.get_str("log"),
+        logged: matches.get_one("log-of").unwrap_or(1),
+        tells_profile: matches.get_flag("profile"),
+    }
+}
+
+/// What a command asks for with these programs, and, of `page`, their sources. None of a command that takes none.
+fn task_of_programs<'a>(
+    command: &str,
+    matches: &ArgMatches<'a>,
+    programs: ProgramOptions<'a>,
+    sources: Vec<&'a str>,
+) -> Option<Task<'a>> {
+    Some(match command {
+        "page" => Task::Page(PageOptions {
+            programs,
+            sources,
+            json: matches.get_flag("json"),
+            limit: matches.get_one("limit").unwrap_or_default(),
+        }),
+        "picture" => Task::Picture(PictureOptions {
+            programs,
+            cone: matches.get_one("cone"),
+            limit: matches.get_one("limit").unwrap_or_default(),
+        }),
+        "crashes" => Task::Crashes(crash_options(matches, programs)),
+        "explore" => Task::Explore(explore_options(matches, Explored::Programs(programs))),
+        "debug" => Task::DebugLive(live_options(matches, programs)),
+        "gdb" => Task::Gdb(GdbOptions {
+            live: live_options(matches, programs),
+            trace: matches.get_str("trace"),
+            symbols: matches.get_str("symbols"),
+            history: matches.get_one("history").unwrap_or_default(),
+        }),
+        "run" => Task::Run(run_options(matches, programs)?),
+        "exec" => Task::Exec(exec_options(matches, run_options(matches, programs)?)),
+        _ => return None,
+    })
+}
+
+/// What a command and its arguments ask for, once its rules are tested. None of a disk with words of no form.
+pub fn task_of<'a>(
+    alloc: Global,
+    command: &str,
+    matches: &ArgMatches<'a>,
+) -> Result<Option<Task<'a>>, AllocError> {
+    if let Some(task) = plain_task(command, matches) {
         return Ok(Some(task));
     }
-    let paths = match given.row.name() {
-        "page" => given.texts("source"),
-        "crashes" | "explore" | "exec" => given.texts("PROGRAM"),
-        _ => given.texts("IMAGE"),
+    let mut paths = Vec::from_slice(alloc, texts(matches, "PROGRAM"))?;
+    paths.extend_from_slice(texts(matches, "IMAGE"))?;
+    if matches.get_flag("merge") {
+        let options = explore_options(matches, Explored::Parts(paths));
+        return Ok(Some(Task::Explore(options)));
+    }
+    let sources = Vec::from_slice(alloc, texts(matches, "source"))?;
+    let Some(paths) = ImagePaths::new(paths) else {
+        return Ok(None);
     };
-    let paths = Vec::from_slice(alloc, paths)?;
-    Ok(task_of_paths(given, paths))
+    let tapes = TapePaths::read(matches).0;
+    let programs = ProgramOptions { paths, tapes };
+    Ok(task_of_programs(command, matches, programs, sources))
 }

@@ -17,22 +17,6 @@ pub enum Compared {
     Different(Difference),
 }
 
-/// What two logs come to that are equal up to this difference.
-fn different(difference: Difference) -> Compared {
-    match difference.ended() {
-        Some(side) if difference.number == 1 => Compared::NoLog(side),
-        _ => Compared::Different(difference),
-    }
-}
-
-/// What two logs come to that are equal, and have so many instructions.
-fn equal(count: u64) -> Compared {
-    match count {
-        0 => Compared::NoLog(Side::First),
-        count => Compared::Equal(count),
-    }
-}
-
 /// The log that could not be read, and why.
 pub type Unread = (Side, io::Error);
 
@@ -56,8 +40,14 @@ pub fn compare<A: BufRead + Drop, B: BufRead + Drop>(
     for number in 1..u64::MAX {
         let a = next_of(Side::First, &mut first)?;
         let b = next_of(Side::Second, &mut second)?;
+        if number == 1 && a.is_none() {
+            return Ok(Compared::NoLog(Side::First));
+        }
+        if number == 1 && b.is_none() {
+            return Ok(Compared::NoLog(Side::Second));
+        }
         if a != b {
-            return Ok(different(Difference {
+            return Ok(Compared::Different(Difference {
                 number,
                 first: a,
                 second: b,
@@ -66,7 +56,7 @@ pub fn compare<A: BufRead + Drop, B: BufRead + Drop>(
         }
         match a {
             Some(line) => registers.note(line.written),
-            None => return Ok(equal(number - 1)),
+            None => return Ok(Compared::Equal(number - 1)),
         }
     }
     Ok(Compared::Equal(u64::MAX))

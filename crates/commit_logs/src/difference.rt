@@ -43,15 +43,6 @@ fn print_instruction<O: Write>(line: Line, out: &mut O) -> io::Result<()> {
 }
 
 impl Difference {
-    /// The log that ends there, if one does.
-    pub fn ended(&self) -> Option<Side> {
-        match (self.first, self.second) {
-            (None, _) => Some(Side::First),
-            (_, None) => Some(Side::Second),
-            _ => None,
-        }
-    }
-
     /// Prints the difference; the logs by these names.
     pub fn print<O: Write>(&self, first: &str, second: &str, out: &mut O) -> io::Result<()> {
         let number = self.number;

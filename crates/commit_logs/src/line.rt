@@ -1,18 +1,18 @@
 //! A line of a log: an instruction that was done, and what it changed.
 use crate::line_text::LineText;
+use formats::Reg;
 use std::io;
 use std::io::Write;
 
 /// A register that an instruction wrote, and its value then.
-#[derive(Clone, Copy, Debug, PartialEq, Eq)]
+#[derive(Clone, Copy, PartialEq, Eq)]
 pub struct Written {
-    /// The register's number, 1 to 31.
-    pub register: u32,
+    pub register: Reg,
     pub value: u32,
 }
 
 /// What an instruction did with memory.
-#[derive(Clone, Copy, Debug, PartialEq, Eq)]
+#[derive(Clone, Copy, PartialEq, Eq)]
 pub enum Access {
     /// It loaded from an address.
     Load { at: u32 },
@@ -21,7 +21,7 @@ pub enum Access {
 }
 
 /// An instruction that was done.
-#[derive(Clone, Copy, Debug, PartialEq, Eq)]
+#[derive(Clone, Copy, PartialEq, Eq)]
 pub struct Line {
     /// The address of the instruction.
     pub at: u32,
@@ -29,14 +29,6 @@ pub struct Line {
     /// None where no register was written, or x0.
     pub written: Option<Written>,
     pub access: Option<Access>,
-}
-
-/// Adds what a register holds.
-fn add_written(text: &mut LineText, written: Written) {
-    text.add(b" x");
-    text.add_register(written.register);
-    text.add(b" ");
-    text.add_word(written.value);
 }
 
 /// Adds an access, a value with as many digits as were stored.
@@ -61,8 +53,11 @@ impl Line {
         text.add(b" (");
         text.add_word(self.word);
         text.add(b")");
-        if let Some(written) = self.written {
-            add_written(&mut text, written);
+        if let Some(Written { register, value }) = self.written {
+            text.add(b" x");
+            text.add_register(u32::from(register.number()));
+            text.add(b" ");
+            text.add_word(value);
         }
         if let Some(access) = self.access {
             add_access(&mut text, access);

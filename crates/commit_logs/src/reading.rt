@@ -1,45 +1,37 @@
 //! Logs that are read, a line at a time.
 use crate::line::{Access, Line, Written};
+use input_reading::{hex_word, numbered_register};
 use std::alloc::Global;
 use std::io;
 use std::io::BufRead;
 use std::str::SplitAsciiWhitespace;
 
-/// A number after `0x`, below 2^32, and how many digits it has.
-fn hexadecimal(word: &str) -> Option<(u32, usize)> {
-    let digits = word.strip_prefix("0x")?;
-    let number = u32::from_str_radix(digits, 16).ok()?;
-    Some((number, digits.len()))
+/// A number after `0x`, below 2^32.
+fn number_of(word: &str) -> Option<u32> {
+    hex_word(word.strip_prefix("0x")?)
 }
 
 /// The word of an instruction, which stands in parentheses.
 fn word_in(text: &str) -> Option<u32> {
-    let (word, _digits) = hexadecimal(text.strip_prefix("(")?.strip_suffix(")")?)?;
-    Some(word)
+    number_of(text.strip_prefix("(")?.strip_suffix(")")?)
 }
 
-/// The number of a register by its name, as `x10`.
-fn register_named(name: &str) -> Option<u32> {
-    let number = name.strip_prefix("x")?.parse::<u32>().ok()?;
-    if number < 32 { Some(number) } else { None }
-}
-
-/// How many bytes a store writes, by the digits of their value.
-fn stored_bytes(digits: usize) -> u32 {
-    match digits {
-        0..=2 => 1,
-        3..=4 => 2,
+/// How many bytes a store writes, by the length of their value, as `0x0a`.
+fn stored_bytes(length: usize) -> u32 {
+    match length {
+        0..=4 => 1,
+        5..=6 => 2,
         _ => 4,
     }
 }
 
-/// The access that a place means, which a value follows where it is a store.
-fn access_of(at: u32, value: Option<&str>) -> Access {
-    match value.and_then(hexadecimal) {
-        Some((value, digits)) => Access::Store {
+/// The access at an address, where the next word is the value of a store, or is not.
+fn access_of(at: u32, word: &str) -> Access {
+    match number_of(word) {
+        Some(value) => Access::Store {
             at,
             value,
-            bytes: stored_bytes(digits),
+            bytes: stored_bytes(word.len()),
         },
         None => Access::Load { at },
     }
@@ -55,10 +47,10 @@ fn changes_in(mut words: SplitAsciiWhitespace<'_>, at: u32, word: u32) -> Option
     };
     while let Some(name) = words.next() {
         if name == "mem" {
-            let (at, _digits) = hexadecimal(words.next()?)?;
-            line.access = Some(access_of(at, words.next()));
-        } else if let Some(register) = register_named(name) {
-            let (value, _digits) = hexadecimal(words.next()?)?;
+            let at = number_of(words.next()?)?;
+            line.access = Some(access_of(at, words.next().unwrap_or("")));
+        } else if let Some(register) = numbered_register(name) {
+            let value = number_of(words.next()?)?;
             line.written = Some(Written { register, value });
         }
     }
@@ -73,7 +65,7 @@ fn line_of(text: &str) -> Option<Line> {
     }
     let _processor = words.next()?;
     let _rights = words.next()?;
-    let (at, _digits) = hexadecimal(words.next()?)?;
+    let at = number_of(words.next()?)?;
     let word = word_in(words.next()?)?;
     changes_in(words, at, word)
 }
@@ -100,10 +92,7 @@ impl<B: BufRead> Log<B> {
             if self.input.read_until(b'\n', &mut self.text)? == 0 {
                 return Ok(None);
             }
-            let line = match str::from_utf8(self.text.as_slice()) {
-                Ok(text) => line_of(text),
-                Err(_) => None,
-            };
+            let line = str::from_utf8(self.text.as_slice()).ok().and_then(line_of);
             if line.is_some() {
                 return Ok(line);
             }

@@ -12,11 +12,6 @@ pub struct Registers {
     values: [u32; REGISTERS],
 }
 
-/// What stands after a register of this number, of which four stand in a line.
-fn end_of(number: usize) -> &'static str {
-    if number % 4 == 3 { "\n" } else { "  " }
-}
-
 impl Registers {
     pub fn new() -> Registers {
         Registers {
@@ -27,9 +22,7 @@ impl Registers {
     /// Notes what an instruction wrote.
     pub fn note(&mut self, written: Option<Written>) {
         if let Some(Written { register, value }) = written {
-            if let Some(place) = self.values.get_mut(register as usize) {
-                *place = value;
-            }
+            self.values[usize::from(register.number())] = value;
         }
     }
 
@@ -38,7 +31,7 @@ impl Registers {
         for number in 0..REGISTERS {
             let register = Reg::new(number as u8);
             let value = self.values[number];
-            let end = end_of(number);
+            let end = if number % 4 == 3 { "\n" } else { "  " };
             write!(out, "x{number:<2} {register} {value:08x}{end}")?;
         }
         Ok(())

@@ -3,7 +3,7 @@ ghost use Rattle.std.specs.Prelude.{◌<◌, length};
 
 use disk_model::{LONGEST_FILE, MOST_FILES};
 use files::FileList;
-use input_reading::decimal;
+use input_reading::printed_decimal;
 use scripts::is_file_name;
 use sha2::{Digest, Sha256};
 use std::alloc::{AllocError, Global};
@@ -45,13 +45,9 @@ pub fn outcome_of(alloc: Global, files: &FileList) -> Result<String, AllocError>
     Ok(text)
 }
 
-/// Whether a word is a file's length as it is printed: without a leading zero.
+/// Whether a word is a file's length as it is printed.
 fn is_length(word: &str) -> bool {
-    match decimal(word) {
-        Some(0) => word == "0",
-        Some(length) => length <= u64::from(LONGEST_FILE) && !word.starts_with('0'),
-        None => false,
-    }
+    matches!(printed_decimal(word), Some(length) if length <= u64::from(LONGEST_FILE))
 }
 
 fn is_digest(word: &str) -> bool {

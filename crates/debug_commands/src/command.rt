@@ -2,7 +2,7 @@
 use crate::aids::Aids;
 use crate::showing::MOST_SHOWN;
 use formats::Reg;
-use input_reading::{decimal, hexadecimal};
+use input_reading::{decimal, hex_number, hex_word, hexadecimal, register_named};
 
 /// The commands that move the machine.
 #[derive(Clone, Copy)]
@@ -55,55 +55,42 @@ pub enum CommandFault {
 }
 
 impl CommandFault {
-    /// The answer to such a line where a session has no aids.
-    pub fn text(self) -> &'static str {
-        match self {
-            CommandFault::Unknown => {
+    /// The answer to such a line, where a session has aids or has none.
+    pub fn text(self, has_aids: bool) -> &'static str {
+        match (self, has_aids) {
+            (CommandFault::Unknown, false) => {
                 "unknown command; there are: step N, run, break ADDR, clear N, rewind N, state, quit"
             }
-            CommandFault::Number => "faulty number: N is decimal, or hexadecimal after 0x",
-            CommandFault::Address => {
+            (CommandFault::Unknown, true) => {
+                "unknown command; there are: step N, run, break ADDR, break LABEL, clear N, rewind N, state, show ADDR N, quit"
+            }
+            (CommandFault::Number, _) => "faulty number: N is decimal, or hexadecimal after 0x",
+            (CommandFault::Address, false) => {
                 "faulty address: ADDR is eight hexadecimal digits, or up to eight after 0x"
             }
-            CommandFault::Count => "faulty number: N is decimal, from 1 to 4096",
-            CommandFault::Printed => {
+            (CommandFault::Address, true) => {
+                "faulty address: ADDR is eight hexadecimal digits, or up to eight after 0x, LABEL a label in the text of the source"
+            }
+            (CommandFault::Count, _) => "faulty number: N is decimal, from 1 to 4096",
+            (CommandFault::Printed, _) => {
                 "nothing of this name: print takes a register, pc, *ADDR, or a label of the source"
             }
         }
     }
-
-    /// The answer to such a line where a session has aids.
-    pub fn aided_text(self) -> &'static str {
-        match self {
-            CommandFault::Unknown => {
-                "unknown command; there are: step N, run, break ADDR, break LABEL, clear N, rewind N, state, show ADDR N, quit"
-            }
-            CommandFault::Address => {
-                "faulty address: ADDR is eight hexadecimal digits, or up to eight after 0x, LABEL a label in the text of the source"
-            }
-            fault => fault.text(),
-        }
-    }
-}
-
-/// The number of a word that begins with 0x.
-fn prefixed(word: &str) -> Option<u64> {
-    let digits = word.strip_prefix("0x")?;
-    if digits.bytes().all(|byte| byte.is_ascii_hexdigit()) {
-        u64::from_str_radix(digits, 16).ok()
-    } else {
-        None
-    }
 }
 
 fn number_of(word: &str) -> Result<u64, CommandFault> {
-    decimal(word).or(prefixed(word)).ok_or(CommandFault::Number)
+    let number = match word.strip_prefix("0x") {
+        Some(digits) => hex_number(digits),
+        None => decimal(word),
+    };
+    number.ok_or(CommandFault::Number)
 }
 
 /// The address that a word says in digits.
 fn address_in_digits(word: &str) -> Option<u32> {
-    match prefixed(word) {
-        Some(number) => u32::try_from(number).ok(),
+    match word.strip_prefix("0x") {
+        Some(digits) => hex_word(digits),
         None => hexadecimal(word),
     }
 }
@@ -124,7 +111,7 @@ fn value_named(word: &str, aids: &Aids) -> Result<Printed, CommandFault> {
     if let Some(place) = word.strip_prefix("*") {
         return Ok(Printed::Word(address_of(place, aids)?));
     }
-    if let Some(register) = aids.register_of(word) {
+    if let Some(register) = register_named(word) {
         return Ok(Printed::Register(register));
     }
     match aids.address_of(word) {
@@ -133,45 +120,24 @@ fn value_named(word: &str, aids: &Aids) -> Result<Printed, CommandFault> {
     }
 }
 
-/// The command of this name that stands alone.
-fn plain(name: &str, aids: &Aids) -> Result<Command, CommandFault> {
-    match name {
-        "run" => Ok(Command::Move(Motion::Run)),
-        "state" => Ok(Command::State),
-        "quit" => Ok(Command::Quit),
-        "help" | "?" => Ok(Command::Help),
-        "step" => Ok(Command::Move(Motion::Step(1))),
-        "print" => Err(CommandFault::Printed),
-        "clear" | "rewind" => Err(CommandFault::Number),
-        "break" => Err(CommandFault::Address),
-        "show" if aids.some() => Err(CommandFault::Address),
-        _ => Err(CommandFault::Unknown),
-    }
-}
-
 /// The number of bytes to print, of the second word of `show`.
 fn count_of(word: &str) -> Result<u32, CommandFault> {
-    match number_of(word).ok() {
-        Some(count) if 1 <= count && count <= u64::from(MOST_SHOWN) => Ok(count as u32),
+    match number_of(word) {
+        Ok(count) if 1 <= count && count <= u64::from(MOST_SHOWN) => Ok(count as u32),
         _ => Err(CommandFault::Count),
     }
 }
 
 /// The command that prints memory, of the words after its name.
 fn show(words: &str, aids: &Aids) -> Result<Command, CommandFault> {
-    match words.split_once(' ') {
-        Some((at, count)) => Ok(Command::Show {
-            at: address_of(at, aids)?,
-            count: count_of(count.trim_ascii())?,
-        }),
-        None => {
-            address_of(words, aids)?;
-            Err(CommandFault::Count)
-        }
-    }
+    let (at, count) = words.split_once(' ').unwrap_or((words, ""));
+    Ok(Command::Show {
+        at: address_of(at, aids)?,
+        count: count_of(count.trim_ascii())?,
+    })
 }
 
-/// The command of this name, with the words after it.
+/// The command of this name, with the words after it, or none.
 fn with_word(name: &str, word: &str, aids: &Aids) -> Result<Command, CommandFault> {
     match name {
         "step" => Ok(Command::Move(Motion::Step(number_of(word)?))),
@@ -186,8 +152,15 @@ fn with_word(name: &str, word: &str, aids: &Aids) -> Result<Command, CommandFaul
 
 /// The command of a line that has no blanks at its ends.
 pub fn command_of(line: &str, aids: &Aids) -> Result<Command, CommandFault> {
-    match line.split_once(' ') {
-        Some((name, word)) => with_word(name, word.trim_ascii(), aids),
-        None => plain(line, aids),
+    match line {
+        "run" => Ok(Command::Move(Motion::Run)),
+        "state" => Ok(Command::State),
+        "quit" => Ok(Command::Quit),
+        "help" | "?" => Ok(Command::Help),
+        "step" => Ok(Command::Move(Motion::Step(1))),
+        _ => {
+            let (name, word) = line.split_once(' ').unwrap_or((line, ""));
+            with_word(name, word.trim_ascii(), aids)
+        }
     }
 }

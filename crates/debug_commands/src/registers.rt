@@ -1,22 +1,12 @@
 //! Prints registers by their names: all of them, or those that changed.
 use debugger::Machine;
 use formats::Reg;
-use std::alloc::{AllocError, Global};
+use std::alloc::Global;
 use std::io;
 use std::io::Write;
 use timeline::SessionFault;
 
 const REGISTERS: u8 = 32;
-
-/// The names of the registers, by their numbers.
-pub fn register_names(alloc: Global) -> Result<Vec<String>, AllocError> {
-    let mut names = Vec::new(alloc);
-    for number in 0..REGISTERS {
-        let register = Reg::new(number);
-        names.push(format!(in alloc; "{register}")?)?;
-    }
-    Ok(names)
-}
 
 /// Prints a register that changed, with the value before and the value after.
 fn print_changed<O: Write>(register: Reg, before: u32, after: u32, out: &mut O) -> io::Result<()> {

@@ -3,14 +3,13 @@ use crate::aids::Aids;
 use crate::command::{Command, CommandFault, command_of};
 use crate::help::print_help;
 use crate::refusal::print_refusal;
-use crate::registers::{print_registers, register_names};
+use crate::registers::print_registers;
 use crate::showing::print_memory;
 use crate::values::print_value;
 use crate::writable::Writable;
 use debug_info::SourceLines;
 use debugger::Image;
 use std::alloc::Global;
-use std::io;
 use std::io::{BufRead, BufReader, Read, Write};
 use timeline::{Origin, SessionFault, Timeline};
 
@@ -65,16 +64,6 @@ impl Session {
         }
     }
 
-    /// Prints why a line is no command.
-    fn print_fault<O: Write>(&self, fault: CommandFault, out: &mut O) -> io::Result<()> {
-        let text = if self.aids.some() {
-            fault.aided_text()
-        } else {
-            fault.text()
-        };
-        writeln!(out, "{text}")
-    }
-
     /// Reads a line and answers it, and says whether the session goes on.
     fn answer_next<B: BufRead, O: Write>(
         &mut self,
@@ -90,7 +79,7 @@ impl Session {
         match self.read_command(line.as_slice()) {
             None => {}
             Some(Ok(command)) => goes_on = self.answer(command, out)?,
-            Some(Err(fault)) => self.print_fault(fault, out)?,
+            Some(Err(fault)) => writeln!(out, "{}", fault.text(self.aids.some()))?,
         }
         out.flush()?;
         Ok(goes_on)
@@ -138,7 +127,6 @@ pub fn debug<I: Read, O: Write>(
     let aids = Aids {
         is_live: timeline.live.is_some(),
         source,
-        registers: register_names(alloc)?,
     };
     let mut session = Session {
         alloc,

@@ -2,16 +2,15 @@
 use crate::fault::of_session;
 use command_line::LiveOptions;
 use debug_commands::debug;
-use faults::{Fault, at_path};
-use host_files::{image_in, image_of_file, replies_in, source_lines_in};
+use debug_info::SourceLines;
+use exec_files::{Names, Places};
+use faults::{Fault, Refusal};
+use host_files::{image_in, replies_in, source_lines_in};
 use kernel::{Core, Event, Refused};
 use machine_model::Image;
 use recorder::Recorder;
-use run_files::boot_live;
-use script_files::of_script;
-use scripts::{Script, Setup, is_script};
+use run_files::{Input, Subject, of_subject, subject_in};
 use std::alloc::Global;
-use std::fs;
 use std::io::{Read, Write};
 use std::rt::Files;
 use timeline::Origin;
@@ -72,7 +71,7 @@ impl Ancestors {
 fn fault_of(why: Refused, process: u32) -> Fault {
     match why {
         Refused::OutOfMemory => Fault::OutOfMemory,
-        _ => Fault::Process { process },
+        _ => Fault::from(Refusal::Process { process }),
     }
 }
 
@@ -93,91 +92,55 @@ fn await_process(
         }
         ancestors.add(recorder.core())?;
     }
-    Err(Fault::Process { process })
+    Err(Fault::from(Refusal::Process { process }))
 }
 
-/// The core of what a script sets up, and the images.
-fn boot_script<R: Files + AllocGlobal>(
+/// A process that is to be debugged: the image from which it descends, what is known of that image, and what answers its calls.
+#[derive(Drop)]
+pub struct Debuggee {
+    pub image: Image,
+    pub places: Option<Places>,
+    pub origin: Origin,
+}
+
+/// The program of what was booted from which a process descends.
+fn process_of<R: Files + AllocGlobal>(
     rt: &R,
-    path: &str,
-    script: Script,
-) -> Result<(Core, Vec<Image>), Fault> {
-    let mut setup = script.into_setup();
-    let core = of_script(rt, path, setup.boot(rt, None))?;
-    let mut images = Vec::new(rt.alloc());
-    for program in setup.programs.as_mut_slice() {
-        images.push(program.source.image(rt)?)?;
-    }
-    Ok((core, images))
-}
-
-/// The core of an image whose file has these bytes, and the image.
-fn boot_image<R: Files + AllocGlobal>(
-    rt: &R,
-    path: &str,
-    bytes: Vec<u8>,
-) -> Result<(Core, Vec<Image>), Fault> {
-    let image = image_of_file(rt.alloc(), path, bytes.as_slice())?;
-    let mut setup = Setup::new(rt.alloc());
-    setup.push_binary(bytes)?;
-    let core = setup.boot(rt, None)?;
-    Ok((core, vec![in rt.alloc(); image]?))
-}
-
-/// The core of the only file of a session, which is read once: of an image, or of what a script sets up.
-fn boot_file<R: Files + AllocGlobal>(rt: &R, path: &str) -> Result<(Core, Vec<Image>), Fault> {
+    mut subject: Subject,
+    core: Core,
+    process: u32,
+) -> Result<Debuggee, Fault> {
     let alloc = rt.alloc();
-    let bytes = at_path(alloc, path, fs::read(rt, path))?;
-    let script = match str::from_utf8(bytes.as_slice()) {
-        Ok(text) if !text.is_empty() && is_script(text) => Some(Script::parse(alloc, text)),
-        _ => None,
-    };
-    match script {
-        Some(script) => boot_script(rt, path, of_script(rt, path, script)?),
-        None => boot_image(rt, path, bytes),
-    }
-}
-
-/// The core of a session, and its images. A script has tapes and a disk of its own.
-fn boot_session<R: Files + AllocGlobal>(
-    rt: &R,
-    options: &LiveOptions<'_>,
-) -> Result<(Core, Vec<Image>), Fault> {
-    match (options.images.as_slice(), options.tape, options.disk) {
-        ([path], None, None) => boot_file(rt, path),
-        _ => boot_live(rt, options),
-    }
-}
-
-/// The image from which a process of a run of images, or of what a script sets up, descends, and the kernel that answers the calls of the
-/// process. Refused is a process that no fork makes.
-pub fn process_in<R: Files + AllocGlobal>(
-    rt: &R,
-    options: &LiveOptions<'_>,
-) -> Result<(Image, Origin), Fault> {
-    let alloc = rt.alloc();
-    let process = options.process;
-    let (core, mut images) = boot_session(rt, options)?;
     let mut recorder = Recorder::new(alloc, core, process);
-    let place = await_process(alloc, &mut recorder, process, images.len())?;
-    if place >= images.len() {
-        return Err(Fault::Process { process });
-    }
-    let image = images.swap_remove(place);
-    Ok((image, Origin::Kernel(recorder, process)))
+    let booted = subject.setup.programs.as_mut_slice();
+    let place = await_process(alloc, &mut recorder, process, booted.len())?;
+    let Some(program) = booted.get_mut(place) else {
+        return Err(Fault::from(Refusal::Process { process }));
+    };
+    let image = program.source.image(rt)?;
+    let places = if place < subject.programs.len() {
+        Some(subject.programs.swap_remove(place).into_parts().1)
+    } else {
+        None
+    };
+    Ok(Debuggee {
+        image,
+        places,
+        origin: Origin::Kernel(recorder, process),
+    })
 }
 
-/// Debugs an image's program. Where the path of its source is given, the source's lines are printed too.
-fn debug_image<R: Files + AllocGlobal, I: Read, O: Write>(
+/// A process of a run of programs, or of what a script sets up, and the kernel that answers its calls. Refused is a process that no fork
+/// makes.
+pub fn process_in<R: Files + AllocGlobal, I: Read>(
     rt: &R,
-    image: Image,
-    origin: Origin,
-    source: Option<&str>,
-    input: &mut I,
-    out: &mut O,
-) -> Result<(), Fault> {
-    let source = source_lines_in(rt, source, &image)?;
-    debug(rt.alloc(), image, origin, source, input, out).map_err(of_session)
+    options: &LiveOptions<'_>,
+    input: &mut Input<'_, I>,
+) -> Result<Debuggee, Fault> {
+    let mut subject = subject_in(rt, &options.programs, input)?;
+    let booted = subject.boot_on(rt, options.disk);
+    let core = of_subject(rt.alloc(), &options.programs, booted)?;
+    process_of(rt, subject, core, options.process)
 }
 
 /// Debugs the image in a file, by the commands on the input. The program's calls get the replies of the trace in another file, or
@@ -192,17 +155,36 @@ pub fn debug_file<R: Files + AllocGlobal, I: Read, O: Write>(
 ) -> Result<(), Fault> {
     let image = image_in(rt, image)?;
     let origin = Origin::Trace(replies_in(rt, trace)?);
-    debug_image(rt, image, origin, source, input, out)
+    let lines = source_lines_in(rt, source, &image)?;
+    debug(rt.alloc(), image, origin, lines, input, out).map_err(of_session)
 }
 
-/// Debugs a process of a run of images, or of what a script sets up, by the commands on the input. A kernel answers its calls, and
-/// nothing is written to the disk's file. Refused is a process that no fork makes.
+/// The lines of the source that a program was made of, if it was.
+fn lines_of(places: Option<Places>) -> Option<SourceLines> {
+    let Places { path: _path, names } = places?;
+    match names {
+        Names::Source(lines) => Some(lines),
+        Names::Executable { .. } => None,
+    }
+}
+
+/// Debugs a process of a run of programs, or of what a script sets up, by the commands on the input. A kernel answers its calls, and
+/// nothing is written to the disk's file. Refused is a process that no fork makes. The lines of a source are printed too, and those of
+/// another one where its path is given.
 pub fn debug_live<R: Files + AllocGlobal, I: Read, O: Write>(
     rt: &R,
     options: &LiveOptions<'_>,
     input: &mut I,
     out: &mut O,
 ) -> Result<(), Fault> {
-    let (image, origin) = process_in(rt, options)?;
-    debug_image(rt, image, origin, options.source, input, out)
+    let Debuggee {
+        image,
+        places,
+        origin,
+    } = process_in(rt, options, &mut Input::<I>::none())?;
+    let lines = match source_lines_in(rt, options.source, &image)? {
+        Some(lines) => Some(lines),
+        None => lines_of(places),
+    };
+    debug(rt.alloc(), image, origin, lines, input, out).map_err(of_session)
 }

@@ -1,11 +1,12 @@
 //! The command `gdb`: answers gdb, which debugs a program.
-use crate::debugging::process_in;
+use crate::debugging::{Debuggee, process_in};
 use crate::fault::of_session;
 use command_line::GdbOptions;
+use exec_files::Places;
 use faults::Fault;
 use gdb_session::{Keeper, Session, converse};
-use host_files::{DiskLock, image_in, keep, replies_in};
-use machine_model::Image;
+use host_files::{DiskLock, keep, replies_in};
+use run_files::{Input, program_in};
 use simdisk::SimDisk;
 use std::alloc::Global;
 use std::fs::File;
@@ -47,29 +48,45 @@ impl<R: Files<File = File> + AllocGlobal> Keeper for DiskFile<'_, R> {
     }
 }
 
-/// The image that is debugged, and where the replies of its calls come from.
-fn origin_in<R: Files + AllocGlobal>(
+/// What is debugged: the program of a trace, or a process of a run that a kernel answers.
+fn debuggee_in<R: Files + AllocGlobal, I: Read>(
     rt: &R,
     options: &GdbOptions<'_>,
-) -> Result<(Image, Origin), Fault> {
+    input: &mut Input<'_, I>,
+) -> Result<Debuggee, Fault> {
     let live = &options.live;
-    match (options.trace, live.images.as_slice().first()) {
-        (Some(trace), Some(image)) => {
-            let image = image_in(rt, image)?;
-            let replies = replies_in(rt, Some(trace))?;
-            Ok((image, Origin::Trace(replies)))
+    match (options.trace, live.programs.paths.as_slice().first()) {
+        (Some(trace), Some(program)) => {
+            let (image, places) = program_in(rt, program, input)?.into_parts();
+            Ok(Debuggee {
+                image,
+                places: Some(places),
+                origin: Origin::Trace(replies_in(rt, Some(trace))?),
+            })
         }
-        _ => process_in(rt, live),
+        _ => process_in(rt, live, input),
+    }
+}
+
+/// The path of the symbols that gdb is told: the one given, or that of an executable with symbols or lines.
+fn symbols_of<'a>(given: Option<&'a str>, places: Option<&'a Places>) -> Option<&'a str> {
+    match (given, places) {
+        (None, Some(places)) if places.has_symbols() => Some(places.path.as_str()),
+        (given, _) => given,
     }
 }
 
 fn session_of(
     alloc: Global,
-    image: Image,
-    origin: Origin,
+    debuggee: Debuggee,
     options: &GdbOptions<'_>,
 ) -> Result<Session, SessionFault> {
-    let symbols = match options.symbols {
+    let Debuggee {
+        image,
+        places,
+        origin,
+    } = debuggee;
+    let symbols = match symbols_of(options.symbols, places.as_ref()) {
         Some(path) => Some(Vec::from_slice(alloc, path.as_bytes())?),
         None => None,
     };
@@ -78,15 +95,15 @@ fn session_of(
     Ok(Session::new(alloc, timeline, room, symbols))
 }
 
-/// Answers gdb, which debugs an image. A kernel answers the calls of its program, or a trace does. Nothing is written to the disk's
-/// file, unless gdb's user asks for it.
+/// Answers gdb, which debugs a program. A kernel answers its calls, or a trace does. Nothing is written to the disk's file, unless gdb's
+/// user asks for it.
 pub fn answer_gdb<
     R: Files<File = File> + AllocGlobal + Threads + Wait + Sync,
     I: Read + Send,
     O: Write,
 >(rt: &R, options: &GdbOptions<'_>, input: &mut I, out: &mut O) -> Result<(), Fault> {
-    let (image, origin) = origin_in(rt, options)?;
-    let session = session_of(rt.alloc(), image, origin, options).map_err(of_session)?;
+    let debuggee = debuggee_in(rt, options, &mut Input::<I>::none())?;
+    let session = session_of(rt.alloc(), debuggee, options).map_err(of_session)?;
     let mut file = DiskFile {
         rt,
         path: options.live.disk,

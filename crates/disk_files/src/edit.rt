@@ -7,7 +7,7 @@ ghost use Rattle.disk_files.specs.Putting.{Makes, with_file};
 
 use byte_list::Bytes;
 use disk_model::{Change, LONGEST_FILE, LONGEST_FILE_WRITE, MOST_FILES, checkpoints_fit};
-use faults::{CopyRefusal, Fault, Refusal};
+use faults::{Fault, Refusal};
 use files::{FileList, part_of};
 use std::alloc::{AllocError, Global};
 
@@ -65,7 +65,7 @@ fn begin(
         return Ok(file);
     }
     if !may_create(files, name) {
-        return Err(Fault::from(Refusal::Copy(CopyRefusal::TooMany)));
+        return Err(Fault::from(Refusal::TooMany));
     }
     let file = two_bytes(files.count());
     make(changes, files, Change::Create(Bytes::copy_of(alloc, name)?))?;
@@ -101,7 +101,7 @@ fn write(
     while (offset as usize) < bytes.len() {
         let part = part_of(bytes, offset as usize, LONGEST_FILE_WRITE as usize);
         if !may_write(files, file, offset, part) {
-            return Err(Fault::from(Refusal::Copy(CopyRefusal::TooLong)));
+            return Err(Fault::from(Refusal::TooLong));
         }
         let written = Bytes::copy_of(alloc, part)?;
         make(

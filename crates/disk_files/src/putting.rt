@@ -7,7 +7,7 @@ use crate::begun::begin_put;
 use crate::names::is_name;
 use disk_model::LONGEST_FILE;
 use durable_disk::{DiskFile, store};
-use faults::{CopyRefusal, Fault, Refusal, Role, at_path};
+use faults::{Fault, Refusal, Role, at_path};
 use group_commit::Committer;
 use host_files::{DiskLock, open_durable};
 use input_reading::bytes_in;
@@ -78,13 +78,14 @@ pub fn put_file<R: Files<File = File> + AllocGlobal>(
     name: &str,
     from: &str,
 ) -> Result<(), Fault> {
-    let (alloc, name) = (rt.alloc(), name.as_bytes());
+    let (alloc, given) = (rt.alloc(), name);
+    let name = name.as_bytes();
     if !is_name(name) {
-        return Err(Fault::from(Refusal::Copy(CopyRefusal::BadName)));
+        return Err(Fault::from(Refusal::BadName).at(alloc, given));
     }
     let bytes = at_path(alloc, from, bytes_in(rt, from, LONGEST_FILE as usize))?;
     if bytes.len() > LONGEST_FILE as usize {
-        return Err(Fault::from(Refusal::Copy(CopyRefusal::TooLong)).at(alloc, from));
+        return Err(Fault::from(Refusal::TooLong).at(alloc, from));
     }
     let lock = DiskLock::take(rt, path)?;
     let done = put_or_undo(rt, path, name, bytes.as_slice());

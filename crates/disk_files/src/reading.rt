@@ -1,5 +1,5 @@
 //! What stands on a disk, and `cat_file`, which copies a file out.
-use faults::{CopyRefusal, Fault, Refusal};
+use faults::{Fault, Refusal};
 use files::FileTable;
 use host_files::disk_in;
 use std::io::Write;
@@ -24,6 +24,6 @@ pub fn cat_file<R: Files + AllocGlobal, O: Write>(
     let files = files_on(rt, path)?;
     match files.find(name.as_bytes()) {
         Some(place) => Ok(out.write_all(files.bytes(place))?),
-        None => Err(Fault::from(Refusal::Copy(CopyRefusal::NoFile)).at(rt.alloc(), path)),
+        None => Err(Fault::from(Refusal::NoFile).at(rt.alloc(), path)),
     }
 }

@@ -2,51 +2,25 @@
 use crate::code_lines::CodeLines;
 use crate::functions::functions_of;
 use crate::program::{LoadedProgram, Names, Places};
-use assembler::{AsmFault, Cause, assemble};
+use assembler::assemble;
 use debug_info::SourceLines;
-use elf32::{ElfFault, LinkFault, MOST_LINKED_BYTES, image_of};
-use faults::Fault;
+use elf32::{ElfFault, MOST_LINKED_BYTES, image_of};
+use faults::{Fault, Refusal, at_path};
+use host_files::{FileKind, kind_fault, kind_of, source_fault, text_of_file};
 use input_reading::bytes_in;
 use machine_model::Image;
-use source_checks::{advice, is_c};
 use std::alloc::{AllocError, Global};
-use std::io::{self, ErrorKind};
 use std::rt::Files;
-
-/// The first bytes of an image, and of an executable.
-const ELF_BEGIN: &[u8] = b"\x7fELF";
-
-/// What is said of a file of no kind.
-const NO_KIND: &str =
-    "it is no image, no executable for RISC-V and no source: its bytes are no text (UTF-8)";
 
 /// What is said of an executable that has nothing to name an address by.
 const NO_NAMES: &str = "it has no symbols, and no lines (DWARF), by which a place is named";
 
-/// The exit statuses where a program is refused, and where the host does not give, or take, its file.
-const REFUSED: u8 = 2;
-
-const NOT_GIVEN: u8 = 6;
-
-/// The fault that a line tells, if there is memory for the line.
-fn told(text: Result<String, AllocError>, status: u8) -> Fault {
-    match text {
-        Ok(text) => Fault::told(text, status),
-        Err(_) => Fault::OutOfMemory,
-    }
-}
+/// A file that is refused, with the exit status 2.
+const REFUSED: Refusal = Refusal::Told { status: 2 };
 
 /// The fault of a file that is refused.
 pub fn refused(alloc: Global, path: &str, why: &str) -> Fault {
-    told(format!(in alloc; "{path}: {why}"), REFUSED)
-}
-
-/// The fault where the host does not give a file, or take one.
-pub fn host_fault(alloc: Global, path: &str, error: &io::Error) -> Fault {
-    match error.kind() {
-        ErrorKind::OutOfMemory => Fault::OutOfMemory,
-        _ => told(format!(in alloc; "{path}: {error}"), NOT_GIVEN),
-    }
+    Fault::of_file(alloc, REFUSED, path, why)
 }
 
 /// The image that an executable's file is or makes.
@@ -58,11 +32,7 @@ fn linked_image(alloc: Global, path: &str, file: &[u8]) -> Result<Image, Fault> 
     }
     match image_of(alloc, file) {
         Ok(image) => Ok(image),
-        Err(LinkFault::OutOfMemory) => Err(Fault::OutOfMemory),
-        Err(fault) => {
-            let text = format!(in alloc; "{path}: executable refused: {fault}");
-            Err(told(text, REFUSED))
-        }
+        Err(fault) => Err(Fault::from(fault).at(alloc, path)),
     }
 }
 
@@ -79,28 +49,10 @@ fn load_linked(alloc: Global, path: &str, file: &[u8]) -> Result<(Image, Names),
     Ok((image, executable_names(alloc, file)?))
 }
 
-/// What is said of a source that is refused.
-fn source_refused(
-    alloc: Global,
-    path: &str,
-    source: &str,
-    fault: AsmFault,
-) -> Result<String, AllocError> {
-    if fault.why == Cause::Syntax && is_c(source) {
-        return format!(in alloc;
-            "{path}: this is C; examples/c/build.sh {path} /tmp/a.image builds what may be run"
-        );
-    }
-    let said = advice(alloc, source, fault)?;
-    let (line, column) = (fault.line, fault.column);
-    format!(in alloc; "{path}:{line}:{column}: {said}")
-}
-
 fn load_source(alloc: Global, path: &str, source: &str) -> Result<(Image, Names), Fault> {
     let image = match assemble(alloc, source) {
         Ok((image, _listing)) => image,
-        Err(fault) if fault.why == Cause::OutOfMemory => return Err(Fault::OutOfMemory),
-        Err(fault) => return Err(told(source_refused(alloc, path, source, fault), REFUSED)),
+        Err(fault) => return Err(source_fault(alloc, path, source, fault)),
     };
     let text = String::from_str(alloc, source)?;
     match SourceLines::read(alloc, text, &image) {
@@ -110,31 +62,28 @@ fn load_source(alloc: Global, path: &str, source: &str) -> Result<(Image, Names)
     }
 }
 
-fn is_elf(file: &[u8]) -> bool {
-    file.get(..ELF_BEGIN.len()) == Some(ELF_BEGIN)
-}
-
 /// The image of a program's file, and what is known of it.
 fn read(alloc: Global, path: &str, file: &[u8]) -> Result<(Image, Names), Fault> {
-    if is_elf(file) {
-        return load_linked(alloc, path, file);
+    let kind = kind_of(file);
+    match kind {
+        FileKind::Image | FileKind::Executable => return load_linked(alloc, path, file),
+        FileKind::Empty | FileKind::Script => return Err(kind_fault(alloc, REFUSED, path, kind)),
+        _ => {}
     }
-    match str::from_utf8(file) {
-        Ok(source) => load_source(alloc, path, source),
-        Err(_) => Err(refused(alloc, path, NO_KIND)),
+    let source = text_of_file(alloc, path, file)?;
+    if kind == FileKind::Other {
+        return Err(kind_fault(alloc, REFUSED, path, kind));
     }
+    load_source(alloc, path, source)
 }
 
 /// The bytes of a program's file.
 fn file_in<R: Files + AllocGlobal>(rt: &R, path: &str) -> Result<Vec<u8>, Fault> {
-    match bytes_in(rt, path, MOST_LINKED_BYTES) {
-        Ok(bytes) => Ok(bytes),
-        Err(error) => Err(host_fault(rt.alloc(), path, &error)),
-    }
+    at_path(rt.alloc(), path, bytes_in(rt, path, MOST_LINKED_BYTES))
 }
 
 /// The program of the bytes of the file at a path. What it is its bytes say: those of an image or of an executable begin with 7F and the
-/// letters ELF, and a text is a source, which is assembled.
+/// letters ELF, and a text that is no script is a source, which is assembled.
 pub fn program_of(alloc: Global, path: &str, file: &[u8]) -> Result<LoadedProgram, Fault> {
     let (image, names) = read(alloc, path, file)?;
     let path = String::from_str(alloc, path)?;
@@ -142,12 +91,6 @@ pub fn program_of(alloc: Global, path: &str, file: &[u8]) -> Result<LoadedProgra
         image,
         places: Places { path, names },
     })
-}
-
-/// The program in a file.
-pub fn load<R: Files + AllocGlobal>(rt: &R, path: &str) -> Result<LoadedProgram, Fault> {
-    let file = file_in(rt, path)?;
-    program_of(rt.alloc(), path, file.as_slice())
 }
 
 /// What an ELF file names, whether it may be run or not. Refused where it names nothing.
@@ -160,15 +103,16 @@ fn names_of_elf(alloc: Global, path: &str, file: &[u8]) -> Result<Names, Fault> 
     Ok(Names::Executable { functions, lines })
 }
 
-/// What the file of a program names, as `load` reads it. An ELF file need not be one that may be run, but has to name something.
+/// What the file of a program names, as `program_of` reads it. An ELF file need not be one that may be run, but has to name something.
 pub fn load_places<R: Files + AllocGlobal>(rt: &R, path: &str) -> Result<Places, Fault> {
     let alloc = rt.alloc();
     let file = file_in(rt, path)?;
-    let names = if is_elf(file.as_slice()) {
-        names_of_elf(alloc, path, file.as_slice())?
-    } else {
-        let (_image, names) = read(alloc, path, file.as_slice())?;
-        names
+    let names = match kind_of(file.as_slice()) {
+        FileKind::Image | FileKind::Executable => names_of_elf(alloc, path, file.as_slice())?,
+        _ => {
+            let (_image, names) = read(alloc, path, file.as_slice())?;
+            names
+        }
     };
     let path = String::from_str(alloc, path)?;
     Ok(Places { path, names })

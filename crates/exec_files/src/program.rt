@@ -39,6 +39,24 @@ impl Drop for LoadedProgram {
     }
 }
 
+impl LoadedProgram {
+    /// Its image, and what stands at the addresses.
+    pub fn into_parts(self) -> (Image, Places) {
+        let LoadedProgram { image, places } = self;
+        (image, places)
+    }
+}
+
+impl Places {
+    /// Whether they are an executable's, which has symbols or lines in its file.
+    pub fn has_symbols(&self) -> bool {
+        match &self.names {
+            Names::Source(_) => false,
+            Names::Executable { functions, lines } => !functions.is_empty() || !lines.is_empty(),
+        }
+    }
+}
+
 /// What a program has at an address, as a part of a line: the line of its source; or the function with how far it is from its begin, and
 /// the line of the file that it was compiled of. Nothing where nothing is known of it.
 #[derive(Clone, Copy)]

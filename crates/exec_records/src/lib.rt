@@ -15,5 +15,5 @@ mod telling;
 pub use counts::Counts;
 pub use logging::StepLog;
 pub use profile::Profile;
-pub use recording::{Recorded, write_script};
+pub use recording::{steps_of, write_script};
 pub use telling::{EndedRun, write_json};

@@ -8,10 +8,9 @@ use std::alloc::{AllocError, Global};
 
 /// The programs of a run, and which of them each process runs, as far as that is known.
 pub struct Family {
-    programs: Vec<LoadedProgram>,
-    /// For each process of the boot the place of its program, where that is known.
-    booted: Vec<Option<usize>>,
-    /// The same for process 1 and up. None also where it executed a file since.
+    /// For each process of the boot its program, where that is known.
+    programs: Vec<Option<LoadedProgram>>,
+    /// For process 1 and up the place of its program, or that of a process of the boot. None also where it executed a file since.
     runs: Vec<Option<usize>>,
     /// The process that stands at a fork or an exec, which is the next event, and whether it is a fork.
     standing: Option<(u32, bool)>,
@@ -21,7 +20,6 @@ impl Drop for Family {
     fn drop(self) {
         let Family {
             programs: _programs,
-            booted: _booted,
             runs: _runs,
             standing: _,
         } = self;
@@ -54,41 +52,51 @@ fn has_executed(core: &Core, pid: u32) -> bool {
     }
 }
 
-impl Family {
-    /// Before the run: each program is that of a process.
-    pub fn new(alloc: Global, programs: Vec<LoadedProgram>) -> Result<Family, AllocError> {
-        let mut booted = Vec::new(alloc);
-        for place in 0..programs.len() {
-            booted.push(Some(place))?;
-        }
-        Family::of(alloc, programs, booted)
+/// The place of its own program for each of so many processes.
+fn own_programs(alloc: Global, count: usize) -> Result<Vec<Option<usize>>, AllocError> {
+    let mut runs = Vec::new(alloc);
+    for place in 0..count {
+        runs.push(Some(place))?;
     }
+    Ok(runs)
+}
 
-    /// Before the run, where for each process of the boot the place of its program among these is given, if it is one of them.
-    pub fn of(
+impl Family {
+    /// Before the run of so many processes, of which the first ones run these programs. What the others run is not known.
+    pub fn new(
         alloc: Global,
         programs: Vec<LoadedProgram>,
-        booted: Vec<Option<usize>>,
+        processes: usize,
     ) -> Result<Family, AllocError> {
-        let runs = Vec::from_slice(alloc, booted.as_slice())?;
+        let mut known = Vec::new(alloc);
+        for program in programs {
+            known.push(Some(program))?;
+        }
+        for _ in known.len()..processes {
+            known.push(None)?;
+        }
         Ok(Family {
-            programs,
-            booted,
-            runs,
+            runs: own_programs(alloc, known.len())?,
+            programs: known,
             standing: None,
         })
     }
 
     /// The processes of the boot are booted again.
     pub fn reboot(&mut self, alloc: Global) -> Result<(), AllocError> {
-        self.runs = Vec::from_slice(alloc, self.booted.as_slice())?;
+        self.runs = own_programs(alloc, self.programs.len())?;
         self.standing = None;
         Ok(())
     }
 
-    /// The programs with which the run began, in order.
-    pub fn programs(&self) -> &[LoadedProgram] {
+    /// The programs with which the run began, one for each process, as far as they are known.
+    pub fn programs(&self) -> &[Option<LoadedProgram>] {
         self.programs.as_slice()
+    }
+
+    /// The same, to name what is known of them.
+    pub fn programs_mut(&mut self) -> &mut [Option<LoadedProgram>] {
+        self.programs.as_mut_slice()
     }
 
     /// The place of the program that a process runs, where it is known.
@@ -103,7 +111,7 @@ impl Family {
 
     /// The program that a process runs, where it is known.
     pub fn program_of(&self, pid: u32) -> Option<&LoadedProgram> {
-        self.programs.as_slice().get(self.run_by(pid)?)
+        self.programs.as_slice().get(self.run_by(pid)?)?.as_ref()
     }
 
     /// Is told of an event that is to be applied.

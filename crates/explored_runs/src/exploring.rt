@@ -40,6 +40,8 @@ struct Printer<'r, 'p, 'w, 'o, 'e, R, O, E> {
     /// Whether a part is searched.
     is_part: bool,
     wanted: Wanted<'w>,
+    /// The calls of the first outcome in which a process runs on, once one is found.
+    runs_on: &'r mut Option<Vec<u32>>,
     /// The set-up lines with which the script of an outcome begins.
     setup: Vec<u8>,
     findings: Findings<'w>,
@@ -58,6 +60,7 @@ impl<R, O, E> Drop for Printer<'_, '_, '_, '_, '_, R, O, E> {
             runs: _,
             is_part: _,
             wanted: _,
+            runs_on: _,
             setup: _setup,
             findings: _findings,
             over: _over,
@@ -95,11 +98,21 @@ impl<R: Files + AllocGlobal, O: Write, E: Write> Printer<'_, '_, '_, '_, '_, R, 
         }
     }
 
+    /// Notes the calls of an outcome in which a process runs on, if it is the first.
+    fn note_runs_on(&mut self, outcome: &Outcome) -> Result<(), AllocError> {
+        if outcome.runs_on && self.runs_on.is_none() {
+            let calls = Vec::from_slice(self.rt.alloc(), outcome.calls.as_slice())?;
+            *self.runs_on = Some(calls);
+        }
+        Ok(())
+    }
+
     /// Prints an outcome where it is new. It is refused if it is not expected.
     fn find(&mut self, outcome: &Outcome) -> Result<(), Fault> {
         let Some(number) = self.findings.keep(self.rt.alloc(), outcome)? else {
             return Ok(());
         };
+        self.note_runs_on(outcome)?;
         self.print(number, outcome)?;
         self.save(number, outcome.calls.as_slice())?;
         self.findings.judge(number, outcome)
@@ -210,7 +223,8 @@ fn sum_of(lines: &[u8]) -> Key {
 
 /// Finds all outcomes of programs, whatever the order of their calls, each by as few calls as lead to it, and prints each once, and then
 /// how many states, calls and outcomes there were. Where the limits leave something unexplored, that is a fault. How far it has come is
-/// told to `err`, if that is wanted. Of a part its file is printed, for `merge_parts`.
+/// told to `err`, if that is wanted. Of a part its file is printed, for `merge_parts`. `runs_on` gets the calls of the first outcome in which
+/// a process runs on.
 ///
 /// Where outcomes are expected, the first that is not among them ends the search. The expectations are read first, and then the programs;
 /// the first fault ends it. What is printed is the same, however many threads search.
@@ -219,6 +233,7 @@ pub fn explore_orders<R: Files + AllocGlobal + Threads + Sync, O: Write, E: Writ
     setup: &mut Setup,
     limits: Limits,
     wanted: Wanted<'_>,
+    runs_on: &mut Option<Vec<u32>>,
     out: &mut O,
     err: &mut E,
 ) -> Result<(), Fault>
@@ -240,6 +255,7 @@ pub fn explore_orders<R: Files + AllocGlobal + Threads + Sync, O: Write, E: Writ
         runs: &runs,
         is_part: limits.part.is_some(),
         wanted,
+        runs_on,
         setup: lines,
         findings,
         over: Vec::new(alloc),

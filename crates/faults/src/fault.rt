@@ -1,82 +1,70 @@
 //! `Fault`: why the program ends early.
-use crate::expectation::ExpectationFault;
 use crate::exploration::ExplorationFault;
-use crate::reason::{Reason, Why};
-use crate::refusal::{Refusal, Role};
-use crate::whole_line::write_line;
+use crate::reason::{Why, said_of_line};
+use crate::refusal::{Place, Refusal, Role};
 use elf32::{ElfFault, LinkFault};
 use journal::DiskFault;
 use simdisk::DiskRefusal;
 use std::alloc::{AllocError, AllocFailed, Global};
-use std::io::{self, Write};
+use std::{fmt, io};
 use thiserror::Error;
 
-/// Why the program ends before its end. It prints as the line on standard error.
+/// Why the program ends before its end. It prints as the line of its exit status; `ForPeople` has all of it.
 #[derive(Debug, Drop, Error)]
 pub enum Fault {
-    /// An argument of the command line that is no text.
-    #[error("bench: an argument is not UTF-8")]
-    Argument,
-    /// A process that does not come to be.
-    #[error("bench: process refused: NoProcess: no process {process} comes to be")]
-    Process {
-        process: u32,
-    },
-    /// Two logs that differ at the instruction of this number.
-    #[error("bench: logs differ at instruction {instruction}")]
-    Logs {
-        instruction: u64,
-    },
-    /// What is refused, or fails, and the file and the reason.
+    /// What is refused, or fails; the file that it is about; and what is wrong. The last two are missing where they are not known.
     #[error("bench: {refusal}")]
     Refused {
         refusal: Refusal,
-        reason: Reason,
-    },
-    /// A file that is refused by a line of its own, which has its path, and the exit status; and what the line does not say.
-    #[error("bench: {text}")]
-    Told {
-        text: String,
-        status: u8,
-        reason: Reason,
+        path: Option<String>,
+        why: Option<Why>,
     },
     #[error("bench: out of memory")]
     OutOfMemory,
 }
 
 impl Fault {
-    /// What is refused, and why, of a file that is not known yet.
-    pub fn new(refusal: Refusal, why: Option<Why>) -> Fault {
-        Fault::Refused {
-            refusal,
-            reason: Reason { path: None, why },
-        }
-    }
-
-    /// A file that is refused by a line of its own, which says all.
-    pub fn told(text: String, status: u8) -> Fault {
-        Fault::Told {
-            text,
-            status,
-            reason: Reason {
+    /// What is refused, and what a text says of it, of a file that is not known yet.
+    pub fn saying(refusal: Refusal, text: Result<String, AllocError>) -> Fault {
+        match text {
+            Ok(text) => Fault::Refused {
+                refusal,
                 path: None,
-                why: None,
+                why: Some(Why::Said(text)),
             },
+            Err(_) => Fault::OutOfMemory,
         }
     }
 
-    /// The same fault, of the file at a path, unless it names a file already. Without memory for the path it names none.
+    /// What a text says in full, and the exit status.
+    pub fn told(text: String, status: u8) -> Fault {
+        Fault::saying(Refusal::Told { status }, Ok(text))
+    }
+
+    /// What is refused of the file at a path, and why.
+    pub fn of_file(alloc: Global, refusal: Refusal, path: &str, why: &str) -> Fault {
+        Fault::saying(refusal, String::from_str(alloc, why)).at(alloc, path)
+    }
+
+    /// What is refused for a line, which has this text.
+    pub fn of_line(alloc: Global, refusal: Refusal, line: &str) -> Fault {
+        Fault::saying(refusal, said_of_line(alloc, line, refusal.row().reason))
+    }
+
+    /// The same fault, of the file at a path, unless it names a file already.
     pub fn at(self, alloc: Global, path: &str) -> Fault {
         match self {
             Fault::Refused {
                 refusal,
-                reason: Reason { path: None, why },
-            } => Fault::Refused {
-                refusal,
-                reason: Reason {
-                    path: String::from_str(alloc, path).ok(),
+                path: None,
+                why,
+            } => match String::from_str(alloc, path) {
+                Ok(path) => Fault::Refused {
+                    refusal,
+                    path: Some(path),
                     why,
                 },
+                Err(_) => Fault::OutOfMemory,
             },
             fault => fault,
         }
@@ -85,7 +73,7 @@ impl Fault {
     /// The same fault; of the file at a path, if it is about the file of this role of a command.
     pub fn of(self, alloc: Global, role: Role, path: &str) -> Fault {
         match &self {
-            Fault::Refused { refusal, .. } if refusal.role() == Some(role) => self.at(alloc, path),
+            Fault::Refused { refusal, .. } if refusal.row().role == role => self.at(alloc, path),
             _ => self,
         }
     }
@@ -93,12 +81,8 @@ impl Fault {
     /// The exit status, 1 to 8.
     pub fn status(&self) -> u8 {
         match self {
-            Fault::Argument => 1,
-            Fault::Process { .. } => 2,
-            Fault::Refused { refusal, .. } => refusal.status(),
-            Fault::Told { status, .. } => *status,
+            Fault::Refused { refusal, .. } => refusal.row().status,
             Fault::OutOfMemory => 5,
-            Fault::Logs { .. } => 7,
         }
     }
 
@@ -113,23 +97,62 @@ impl Fault {
         )
     }
 
-    /// Writes the line with the file and the reason, if a reason is known. Whether it is.
-    pub fn explain<E: Write>(&self, err: &mut E) -> io::Result<bool> {
+    /// Whether it says no more than that a standard stream failed. `is_closed` says that nobody reads the output any more.
+    pub fn is_of_closed(&self, is_closed: bool) -> bool {
         match self {
-            Fault::Refused { reason, .. } | Fault::Told { reason, .. } if reason.why.is_some() => {
-                write_line(err, format_args!("bench: {reason}"))?;
-            }
-            Fault::Process { .. } => write_line(
-                err,
-                "bench: the images, and what they fork, make no process of this number",
-            )?,
-            Fault::OutOfMemory => write_line(
-                err,
-                "bench: the host gave no more memory, or no thread; or the run has 2^40 events",
-            )?,
-            _ => return Ok(false),
+            Fault::Refused {
+                path: None,
+                why: Some(Why::System(error)),
+                ..
+            } => error.kind() == io::ErrorKind::BrokenPipe,
+            Fault::Refused {
+                refusal: Refusal::Output | Refusal::Streams,
+                ..
+            } => is_closed,
+            _ => false,
         }
-        Ok(true)
+    }
+}
+
+/// A fault, as a person is told of it: the file, the place there, and what is wrong. A place in a file is written as editors read it.
+#[derive(Clone, Copy)]
+pub struct ForPeople<'a>(pub &'a Fault);
+
+/// Writes the file and the place.
+fn write_place<W: fmt::Write>(
+    f: &mut fmt::Formatter<W>,
+    path: Option<&str>,
+    place: Place,
+) -> fmt::Result {
+    match (place, path) {
+        (Place::Byte(line, byte), Some(path)) => write!(f, "{path}:{line}:{byte}: error: "),
+        (Place::Line(line), Some(path)) => write!(f, "{path}:{line}: error: "),
+        (Place::Whole, Some(path)) => write!(f, "bench: {path}: "),
+        (Place::Line(line), None) => write!(f, "bench: line {line}: "),
+        (_, None) => f.write_str("bench: "),
+    }
+}
+
+impl fmt::Display for ForPeople<'_> {
+    fn fmt<W: fmt::Write>(&self, f: &mut fmt::Formatter<W>) -> fmt::Result {
+        let Fault::Refused { refusal, path, why } = self.0 else {
+            return f.write_str(
+                "bench: the host gave no more memory, or no thread; or the run has 2^40 events",
+            );
+        };
+        let row = refusal.row();
+        let path = path.as_ref().map(|path| path.as_str());
+        write_place(f, path, row.place)?;
+        match (why, refusal) {
+            (Some(Why::System(error)), _) if path.is_none() => {
+                write!(f, "standard input or output: {error}")
+            }
+            (Some(Why::System(error)), _) => write!(f, "{error}"),
+            (Some(Why::Said(text)), _) => f.write_str(text.as_str()),
+            (None, Refusal::Disk { fault, .. }) => write!(f, "{fault}"),
+            (None, refusal) if row.reason.is_empty() => write!(f, "{refusal}"),
+            (None, _) => f.write_str(row.reason),
+        }
     }
 }
 
@@ -155,13 +178,11 @@ impl<T: Drop> From<AllocFailed<T>> for Fault {
 
 impl From<Refusal> for Fault {
     fn from(refusal: Refusal) -> Fault {
-        Fault::new(refusal, refusal.why())
-    }
-}
-
-impl From<ExpectationFault> for Fault {
-    fn from(fault: ExpectationFault) -> Fault {
-        Fault::from(Refusal::Expectation(fault))
+        Fault::Refused {
+            refusal,
+            path: None,
+            why: None,
+        }
     }
 }
 
@@ -218,7 +239,11 @@ impl From<io::Error> for Fault {
     fn from(error: io::Error) -> Fault {
         match error.kind() {
             io::ErrorKind::OutOfMemory => Fault::OutOfMemory,
-            _ => Fault::new(Refusal::InputOutput, Some(Why::System(error))),
+            _ => Fault::Refused {
+                refusal: Refusal::InputOutput,
+                path: None,
+                why: Some(Why::System(error)),
+            },
         }
     }
 }

@@ -2,7 +2,6 @@
 use command_line::DiskTask;
 use disk_files::{cat_file, files_on, print_differences, put_file};
 use faults::{Fault, write_line};
-use files::FileTable;
 use scripts::write_files;
 use std::fs::File;
 use std::io::Write;
@@ -10,18 +9,6 @@ use std::rt::Files;
 
 /// The exit status where two disks differ.
 const DIFFERENT: u8 = 7;
-
-/// The files on one of two disks. The line of its refusal says which of them it is.
-fn files_of<R: Files + AllocGlobal>(rt: &R, path: &str) -> Result<FileTable, Fault> {
-    match files_on(rt, path) {
-        Err(Fault::Refused { refusal, reason }) => Err(Fault::Told {
-            text: format!(in rt.alloc(); "{path}: {refusal}")?,
-            status: refusal.status(),
-            reason,
-        }),
-        files => files,
-    }
-}
 
 /// Prints in which files two disks differ, or how many there are where they differ in none.
 fn diff_disks<R: Files + AllocGlobal, O: Write, E: Write>(
@@ -31,7 +18,7 @@ fn diff_disks<R: Files + AllocGlobal, O: Write, E: Write>(
     out: &mut O,
     err: &mut E,
 ) -> Result<u8, Fault> {
-    let (one, other) = (files_of(rt, first)?, files_of(rt, second)?);
+    let (one, other) = (files_on(rt, first)?, files_on(rt, second)?);
     let count = print_differences(one.list(), other.list(), out)?;
     if count == 0 {
         let files = one.count();
@@ -52,9 +39,9 @@ pub fn use_disk<R: Files<File = File> + AllocGlobal, O: Write, E: Write>(
 ) -> Result<u8, Fault> {
     match task {
         DiskTask::List(disk) => write_files(files_on(rt, disk)?.list(), out)?,
-        DiskTask::Cat { disk, name } => cat_file(rt, disk, name, out)?,
-        DiskTask::Put { disk, name, from } => put_file(rt, disk, name, from)?,
-        DiskTask::Diff { first, second } => return diff_disks(rt, first, second, out, err),
+        DiskTask::Cat(disk, name) => cat_file(rt, disk, name, out)?,
+        DiskTask::Put(disk, name, from) => put_file(rt, disk, name, from)?,
+        DiskTask::Diff(disk, other) => return diff_disks(rt, disk, other, out, err),
     }
     Ok(0)
 }

@@ -2,69 +2,22 @@
 ghost use Rattle.std.specs.Prelude.{◌≡◌, ◌++◌, ◌<◌, OnOk};
 ghost use Rattle.gdb_packets.specs.Digits.{digit, digits_of, hex_of};
 
-use std::alloc::{AllocError, Global};
-
-/// The number of a digit.
-fn value_of(digit: u8) -> Option<u8> {
-    match digit {
-        b'0'..=b'9' => Some(digit - b'0'),
-        b'a'..=b'f' => Some(digit - b'a' + 10),
-        b'A'..=b'F' => Some(digit - b'A' + 10),
-        _ => None,
-    }
-}
-
-/// The number of a word of digits, the highest first. None for a word of none, of others, or of too many.
-pub fn number(word: &str) -> Option<u64> {
-    if word.is_empty() {
-        return None;
-    }
-    let mut number = 0u64;
-    for byte in word.as_bytes() {
-        let digit = value_of(*byte)?;
-        number = number.checked_mul(16)?.checked_add(u64::from(digit))?;
-    }
-    Some(number)
-}
-
-fn word_of(word: &str) -> Option<u32> {
-    u32::try_from(number(word)?).ok()
-}
+use input_reading::{hex_number, hex_word};
+use std::alloc::AllocError;
 
 /// An address and a length, as `AT,N`.
 pub fn range(words: &str) -> Option<(u32, u32)> {
     let (at, length) = words.split_once(',')?;
-    Some((word_of(at)?, word_of(length)?))
+    Some((hex_word(at)?, hex_word(length)?))
 }
 
-/// The bytes of a word of pairs of digits. None for another word.
-pub fn bytes_of(alloc: Global, word: &[u8]) -> Result<Option<Vec<u8>>, AllocError> {
-    let mut bytes = Vec::new(alloc);
-    for pair in word.chunks(2) {
-        let &[first, last] = pair else {
-            return Ok(None);
-        };
-        let (Some(first), Some(last)) = (value_of(first), value_of(last)) else {
-            return Ok(None);
-        };
-        bytes.push(first.wrapping_mul(16).wrapping_add(last))?;
+/// The number of one to eight pairs of digits, the lowest pair first. None for another word.
+pub fn little_endian(word: &str) -> Option<u64> {
+    let digits = word.len();
+    if digits == 0 || digits > 16 || digits % 2 == 1 {
+        return None;
     }
-    Ok(Some(bytes))
-}
-
-/// The number of a word of at most eight pairs of digits, the lowest pair first. None for another word.
-pub fn little_endian(alloc: Global, word: &str) -> Result<Option<u64>, AllocError> {
-    let Some(bytes) = bytes_of(alloc, word.as_bytes())? else {
-        return Ok(None);
-    };
-    if bytes.is_empty() || bytes.len() > 8 {
-        return Ok(None);
-    }
-    let mut number = 0u64;
-    for byte in bytes.iter().rev() {
-        number = number.wrapping_mul(256).wrapping_add(u64::from(*byte));
-    }
-    Ok(Some(number))
+    Some(hex_number(word)?.swap_bytes() >> (64 - 4 * digits))
 }
 
 /// The digit of a number below 16.

@@ -1,6 +1,7 @@
 //! `packet_request`: reads what gdb asks for by a packet.
-use crate::numbers::{bytes_of, little_endian, range};
+use crate::numbers::{little_endian, range};
 use debugger::{Watch, WatchKind};
+use input_reading::hex_bytes;
 use std::alloc::{AllocError, Global};
 
 /// A document that gdb reads in parts.
@@ -108,18 +109,15 @@ fn point_of(words: &str) -> Option<Point> {
 }
 
 /// The request of a write to a register: a travel where the register is `count`, else a change.
-fn written(alloc: Global, words: &str) -> Result<PacketRequest, AllocError> {
-    let Some(("21", value)) = words.split_once('=') else {
-        return Ok(PacketRequest::Change);
-    };
-    match little_endian(alloc, value)? {
-        Some(count) => Ok(PacketRequest::Travel(count)),
-        None => Ok(PacketRequest::Change),
+fn written(words: &str) -> PacketRequest {
+    match words.strip_prefix("21=").and_then(little_endian) {
+        Some(count) => PacketRequest::Travel(count),
+        None => PacketRequest::Change,
     }
 }
 
 fn monitor_request(alloc: Global, digits: &str) -> Result<PacketRequest, AllocError> {
-    match bytes_of(alloc, digits.as_bytes())? {
+    match hex_bytes(alloc, digits)? {
         Some(line) => Ok(PacketRequest::Monitor(line)),
         None => Ok(PacketRequest::Other),
     }
@@ -144,15 +142,15 @@ fn query(alloc: Global, text: &str) -> Result<PacketRequest, AllocError> {
 }
 
 /// A request by its first letter, and what comes after it.
-fn lettered(alloc: Global, letter: char, words: &str) -> Result<PacketRequest, AllocError> {
+fn lettered(letter: char, words: &str) -> PacketRequest {
     match letter {
-        'm' => Ok(known(memory_request(words))),
-        'P' => written(alloc, words),
-        'Z' => Ok(known(point_of(words).map(|point| PacketRequest::Set(point)))),
-        'z' => Ok(known(point_of(words).map(|point| PacketRequest::Clear(point)))),
-        'c' | 'C' => Ok(PacketRequest::Go(Motion::Continue)),
-        's' | 'S' => Ok(PacketRequest::Go(Motion::Step)),
-        _ => Ok(PacketRequest::Other),
+        'm' => known(memory_request(words)),
+        'P' => written(words),
+        'Z' => known(point_of(words).map(|point| PacketRequest::Set(point))),
+        'z' => known(point_of(words).map(|point| PacketRequest::Clear(point))),
+        'c' | 'C' => PacketRequest::Go(Motion::Continue),
+        's' | 'S' => PacketRequest::Go(Motion::Step),
+        _ => PacketRequest::Other,
     }
 }
 
@@ -165,7 +163,7 @@ fn request_of_text(alloc: Global, text: &str) -> Result<PacketRequest, AllocErro
         "QStartNoAckMode" => Ok(PacketRequest::NoAcks),
         _ if text.starts_with('q') => query(alloc, text),
         _ => match text.chars().next() {
-            Some(letter) => lettered(alloc, letter, text.get(1..).unwrap_or_default()),
+            Some(letter) => Ok(lettered(letter, text.get(1..).unwrap_or_default())),
             None => Ok(PacketRequest::Other),
         },
     }

@@ -17,7 +17,7 @@ pub fn check_file<R: Files + AllocGlobal, O: Write>(
         Ok(source) => (source, check(alloc, source)?),
         Err(fault) => ("", Checked::Refused(fault)),
     };
-    print_checked(alloc, source, &checked, out)?;
+    print_checked(alloc, path, source, &checked, out)?;
     match checked {
         Checked::Refused(fault) => Err(source_fault(alloc, path, source, fault)),
         Checked::Passed { .. } => Ok(()),

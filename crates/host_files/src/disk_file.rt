@@ -3,7 +3,7 @@ ghost use Rattle.std.specs.Prelude.{◌≡◌, true, IfOk};
 ghost use Rattle.disk_model.specs.Storage.{is_quiet};
 
 use crate::output_file::OutputFile;
-use faults::{Fault, Refusal, Sentence, Why, at_path};
+use faults::{Fault, Refusal, at_path};
 use input_reading::bytes_in;
 use simdisk::{DiskRefusal, SIZE, SimDisk};
 use std::alloc::Global;
@@ -15,12 +15,12 @@ fn disk_fault(alloc: Global, path: &str, count: usize, refusal: DiskRefusal) -> 
     if !matches!(refusal, DiskRefusal::BadLength) {
         return Fault::from(refusal);
     }
-    let why = if count > SIZE {
-        Why::Text(Sentence::LongDisk)
+    let text = if count > SIZE {
+        format!(in alloc; "a disk has {SIZE} bytes, and this file has more")
     } else {
-        Why::Length(count)
+        format!(in alloc; "a disk has {SIZE} bytes, and this file has {count}")
     };
-    Fault::new(Refusal::DiskLength, Some(why)).at(alloc, path)
+    Fault::saying(Refusal::DiskLength, text).at(alloc, path)
 }
 
 /// The disk of the bytes of the file at a path.

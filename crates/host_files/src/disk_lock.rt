@@ -49,7 +49,7 @@ impl DiskLock {
         path: &str,
     ) -> Result<DiskLock, Fault> {
         if path.is_empty() {
-            return Err(no_path());
+            return Err(no_path(rt.alloc()));
         }
         let alloc = rt.alloc();
         let beside = format!(in alloc; "{path}.lck")?;

@@ -6,19 +6,14 @@ use std::fmt;
 pub type Field = (&'static str, usize, usize, u32, u32, &'static str);
 
 /// The fields of a file header, in the order in which they are tested.
-pub static FILE_HEADER: [Field; 24] = [
+pub static FILE_HEADER: [Field; 19] = [
     ("EI_CLASS", 4, 1, 1, 1, "32 bits"),
     ("EI_DATA", 5, 1, 1, 1, "little-endian"),
     ("EI_VERSION", 6, 1, 1, 1, ""),
     ("EI_OSABI", 7, 1, 0, 0, ""),
     ("EI_ABIVERSION", 8, 1, 0, 0, ""),
-    ("EI_PAD", 9, 1, 0, 0, ""),
-    ("EI_PAD", 10, 1, 0, 0, ""),
-    ("EI_PAD", 11, 1, 0, 0, ""),
-    ("EI_PAD", 12, 1, 0, 0, ""),
-    ("EI_PAD", 13, 1, 0, 0, ""),
-    ("EI_PAD", 14, 1, 0, 0, ""),
-    ("EI_PAD", 15, 1, 0, 0, ""),
+    ("EI_PAD", 9, 4, 0, 0, ""),
+    ("EI_PAD", 13, 3, 0, 0, ""),
     ("e_type", 16, 2, 2, 2, "an executable file"),
     ("e_machine", 18, 2, 243, 243, "RISC-V"),
     ("e_version", 20, 4, 1, 1, ""),

@@ -1,10 +1,12 @@
 //! `image_file`: makes an image of an executable that a stock linker wrote (`bench image`).
+use crate::kind::{kind_fault, kind_of};
 use crate::output_file::write_file;
 use crate::place::writes_over;
-use elf32::{MOST_LINKED_BYTES, image_of};
+use elf32::{LinkFault, MOST_LINKED_BYTES, image_of};
 use faults::{Fault, Refusal, at_path};
 use input_reading::bytes_in;
 use machine_model::{Image, Segment};
+use std::alloc::Global;
 use std::io::Write;
 use std::rt::Files;
 
@@ -30,6 +32,15 @@ fn print_size<O: Write>(image: &Image, out: &mut O) -> Result<(), Fault> {
     Ok(())
 }
 
+/// The fault of a file that is no executable: what else it is, if it is text.
+fn link_fault(alloc: Global, path: &str, bytes: &[u8], fault: LinkFault) -> Fault {
+    let kind = kind_of(bytes);
+    if kind.is_text() {
+        return kind_fault(alloc, Refusal::Linked(fault), path, kind);
+    }
+    Fault::from(fault).at(alloc, path)
+}
+
 /// Makes an image of the executable in a file, writes it to another, and prints how many segments and pages it has, and its entry.
 /// Nothing is written where the executable is refused, or where both paths lead to one file, which is SameFile.
 pub fn image_file<R: Files + AllocGlobal, O: Write>(
@@ -42,7 +53,7 @@ pub fn image_file<R: Files + AllocGlobal, O: Write>(
     let bytes = at_path(alloc, linked, bytes_in(rt, linked, MOST_LINKED_BYTES))?;
     let program = match image_of(alloc, &bytes) {
         Ok(program) => program,
-        Err(fault) => return Err(Fault::from(fault).at(alloc, linked)),
+        Err(fault) => return Err(link_fault(alloc, linked, &bytes, fault)),
     };
     if writes_over(rt, image, linked)? {
         return Err(Fault::from(Refusal::SameFile).at(alloc, image));

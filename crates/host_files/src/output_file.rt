@@ -1,5 +1,5 @@
 //! `OutputFile`: a file that a command writes beside its place, and puts there once it is whole.
-use faults::{Fault, Refusal, Sentence, Why, at_path};
+use faults::{Fault, Refusal, at_path};
 use std::alloc::Global;
 use std::fs::{OpenFile, OpenOptions, Permissions};
 use std::io::{ErrorKind, Write};
@@ -36,8 +36,9 @@ impl<R: Files> Drop for OutputFile<'_, R> {
 }
 
 /// The fault of an empty path, which no file has.
-pub fn no_path() -> Fault {
-    Fault::new(Refusal::InputOutput, Some(Why::Text(Sentence::EmptyPath)))
+pub fn no_path(alloc: Global) -> Fault {
+    let text = String::from_str(alloc, "an empty path names no file");
+    Fault::saying(Refusal::InputOutput, text)
 }
 
 /// The fault where the file with this ending beside the one at a path cannot be made, or used.
@@ -54,7 +55,7 @@ pub fn beside_fault(
             let said = format!(in alloc;
                 "the file {path}{ending} beside it cannot be {done}: {error}"
             );
-            Fault::new(Refusal::InputOutput, Why::said(said)).at(alloc, path)
+            Fault::saying(Refusal::InputOutput, said).at(alloc, path)
         }
     }
 }
@@ -102,7 +103,7 @@ impl<'a, R: Files + AllocGlobal> OutputFile<'a, R> {
     /// done, or where the path is empty.
     pub fn beside(rt: &'a R, path: &'a str) -> Result<OutputFile<'a, R>, Fault> {
         if path.is_empty() {
-            return Err(no_path());
+            return Err(no_path(rt.alloc()));
         }
         let alloc = rt.alloc();
         let rights = at_path(alloc, path, rights_of(rt, path))?;

@@ -1,28 +1,37 @@
 //! `image_in`: reads the image in a file of the host. `text_in`: a text.
-use crate::image_reason::image_reason;
+use crate::image_reason::ImageReason;
+use crate::kind::{FileKind, kind_fault, kind_of};
 use elf32::ElfFault;
-use faults::{Fault, Refusal, Sentence, Why, at_path};
+use faults::{Fault, Refusal, at_path};
 use input_reading::image_file_in;
 use machine_model::Image;
 use std::alloc::Global;
 use std::fs;
 use std::rt::Files;
 
-/// The first bytes of an ELF file.
-const ELF_BEGIN: &[u8] = b"\x7fELF";
-
-/// Why bytes are no text that are text up to a place.
-fn why_no_text(bytes: &[u8], after: usize) -> Why {
-    if bytes.starts_with(ELF_BEGIN) {
-        return Why::Text(Sentence::ElfFile);
+/// The refusal of a text whose byte after so many is none of a text.
+fn no_text_at(bytes: &[u8], after: usize) -> Refusal {
+    let mut line = 1usize;
+    let mut column = 1usize;
+    for byte in bytes.iter().take(after) {
+        column = column.saturating_add(1);
+        if *byte == b'\n' {
+            line = line.saturating_add(1);
+            column = 1;
+        }
     }
-    Why::Byte(after)
+    Refusal::NoText { line, column }
 }
 
-/// The fault of a file of these bytes that are no text.
+/// The fault of a file of these bytes that are text up to a place: what else it is, or the place.
 pub fn no_text(alloc: Global, path: &str, bytes: &[u8], after: usize) -> Fault {
-    let why = why_no_text(bytes, after);
-    Fault::new(Refusal::InputOutput, Some(why)).at(alloc, path)
+    let kind = kind_of(bytes);
+    match kind {
+        FileKind::Image | FileKind::Executable => {
+            kind_fault(alloc, Refusal::InputOutput, path, kind)
+        }
+        _ => Fault::from(no_text_at(bytes, after)).at(alloc, path),
+    }
 }
 
 /// The text of the bytes of a file.
@@ -45,14 +54,14 @@ pub fn image_bytes_in<R: Files + AllocGlobal>(rt: &R, path: &str) -> Result<Vec<
     at_path(rt.alloc(), path, image_file_in(rt, path))
 }
 
-/// The fault of bytes that are no image; with which field is wrong, and of a file of this name what makes an image of it.
-fn image_fault(alloc: Global, name: &str, bytes: &[u8], fault: ElfFault) -> Fault {
+/// The fault of bytes that are no image; with which field is wrong, or what else the file of this name is.
+fn image_fault(alloc: Global, path: &str, file: &[u8], fault: ElfFault) -> Fault {
     if matches!(fault, ElfFault::OutOfMemory) {
         return Fault::OutOfMemory;
     }
     let number = fault.number();
-    let why = Why::said(image_reason(alloc, name, bytes, fault));
-    Fault::new(Refusal::Image { number, fault }, why)
+    let said = format!(in alloc; "{}", ImageReason { path, file, fault });
+    Fault::saying(Refusal::Image { number, fault }, said)
 }
 
 /// The image of these bytes, of a file that is not named.

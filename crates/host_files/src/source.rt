@@ -1,14 +1,15 @@
 //! Assembles a source to a file: an image (`bench asm`), or symbols for gdb (`bench symbols`).
+use crate::kind::{FileKind, KindText, kind_of};
 use crate::output_file::write_file;
 use crate::place::writes_over;
 use crate::reading::no_text;
 use assembler::{AsmFault, Cause, assemble};
 use debug_info::{SymbolFile, symbol_file};
-use faults::{Fault, Refusal, Why, at_path};
+use faults::{Fault, Refusal, at_path};
 use input_reading::bytes_in;
 use machine_model::{Image, Segment};
 use source_checks::advice;
-use std::alloc::Global;
+use std::alloc::{AllocError, Global};
 use std::io::Write;
 use std::rt::Files;
 
@@ -45,14 +46,25 @@ fn line_of(alloc: Global, image: &Image) -> Result<String, Fault> {
     Ok(format!(in alloc; "{text} text bytes, {data} data bytes, entry {entry:08x}")?)
 }
 
+/// What is said of the source of a file that is refused: what else the file is, or what cures the fault.
+fn said_of(alloc: Global, path: &str, source: &str, fault: AsmFault) -> Result<String, AllocError> {
+    let kind = kind_of(source.as_bytes());
+    match kind {
+        FileKind::Empty | FileKind::Script | FileKind::C => {
+            format!(in alloc; "{}", KindText { kind, path })
+        }
+        _ => advice(alloc, source, fault),
+    }
+}
+
 /// The fault of the source of a file, with what cures it.
 pub fn source_fault(alloc: Global, path: &str, source: &str, fault: AsmFault) -> Fault {
     if fault.why == Cause::OutOfMemory {
         return Fault::OutOfMemory;
     }
     let number = fault.why.number();
-    let why = Why::said(advice(alloc, source, fault));
-    Fault::new(Refusal::Source { number, fault }, why).at(alloc, path)
+    let said = said_of(alloc, path, source, fault);
+    Fault::saying(Refusal::Source { number, fault }, said).at(alloc, path)
 }
 
 fn assemble_source(alloc: Global, path: &str, source: &str) -> Result<Assembled, Fault> {
@@ -110,7 +122,8 @@ fn write_assembled<R: Files + AllocGlobal, O: Write>(
     out: &mut O,
 ) -> Result<(), Fault> {
     if writes_over(rt, path, source)? {
-        return Err(Fault::from(Refusal::OwnSource).at(rt.alloc(), path));
+        let why = "this path leads to the source itself; name another file";
+        return Err(Fault::of_file(rt.alloc(), Refusal::InputOutput, path, why));
     }
     write_file(rt, path, assembled.file.as_slice())?;
     let line = assembled.line.as_str();

@@ -1,6 +1,6 @@
 //! `read_trace`: reads a trace, the replies that a debugged program's calls take.
 use elf32::{ElfFault, parse};
-use faults::{Fault, Refusal, Sentence, Why};
+use faults::{Fault, Refusal};
 use input_reading::{bytes_of, hexadecimal};
 use machine_model::Reply;
 use std::alloc::{AllocError, Global};
@@ -49,12 +49,6 @@ fn reply_of(alloc: Global, line: &str) -> Result<Option<Reply>, AllocError> {
     }
 }
 
-/// The fault of a line that is no reply.
-fn line_fault(alloc: Global, number: usize, line: &str) -> Fault {
-    let why = Why::line(alloc, number, line, Sentence::NoReply);
-    Fault::new(Refusal::Trace { line: number }, why)
-}
-
 /// Reads the trace of the file at a path, a line for each reply. `A0 -` and `A0 AT HEX` are replies of a number, without and with bytes. `00000000 image
 /// HEX` is the reply of a call which entered a program, with the bytes of the program's file. A0 and AT are eight hexadecimal
 /// digits; HEX is pairs of such digits, or `-` for no bytes. Lines are counted from 1 and end at a line feed. Empty lines and those
@@ -67,7 +61,10 @@ pub fn read_trace(alloc: Global, path: &str, text: &str) -> Result<Vec<Reply>, F
         if !line.is_empty() && !line.starts_with('#') {
             match reply_of(alloc, line)? {
                 Some(reply) => replies.push(reply)?,
-                None => return Err(line_fault(alloc, number, line).at(alloc, path)),
+                None => {
+                    let refusal = Refusal::Trace { line: number };
+                    return Err(Fault::of_line(alloc, refusal, line).at(alloc, path));
+                }
             }
         }
     }

@@ -2,7 +2,6 @@
 use crate::limited::read_up_to;
 use byteorder::{ByteOrder, LittleEndian};
 use elf32::{ElfFault, parse};
-use std::alloc::Global;
 use std::rt::Files;
 use std::{fs, io};
 
@@ -15,32 +14,20 @@ const PROGRAM_HEADER: usize = 32;
 /// The most bytes that headers take.
 const MOST_HEADERS: u64 = 180;
 
-/// Where the bytes of the segment end to which this program header belongs: `p_offset` + `p_filesz`.
-fn end_of_segment(header: &[u8]) -> u64 {
-    if header.len() < PROGRAM_HEADER {
-        return 0;
-    }
-    let offset = LittleEndian::read_u32(&header[4..]);
-    let size = LittleEndian::read_u32(&header[16..]);
-    u64::from(offset) + u64::from(size)
-}
-
-/// Where the bytes of the last segment end, by a file's headers.
+/// Where the bytes of the last segment end, by a file's headers: the greatest `p_offset` + `p_filesz`.
 fn end_of_segments(headers: &[u8]) -> u64 {
     let Some((header, table)) = headers.split_at_checked(FILE_HEADER) else {
         return 0;
     };
     let count = usize::from(LittleEndian::read_u16(&header[44..]));
+    let (segments, _rest) = table.as_chunks::<PROGRAM_HEADER>();
     let mut end = 0;
-    for header in table.chunks_exact(PROGRAM_HEADER).take(count) {
-        end = end_of_segment(header).max(end);
+    for segment in segments.iter().take(count) {
+        let offset = LittleEndian::read_u32(&segment[4..]);
+        let size = LittleEndian::read_u32(&segment[16..]);
+        end = (u64::from(offset) + u64::from(size)).max(end);
     }
     end
-}
-
-/// Whether the headers of a file pass all checks to which its length is nothing.
-fn wants_segments(alloc: Global, headers: &[u8]) -> bool {
-    matches!(parse(alloc, headers), Err(ElfFault::PastEnd))
 }
 
 /// The bytes of an image's file, as far as `elf32::parse` needs them: its headers, and where they pass the checks before it, all up to
@@ -49,7 +36,7 @@ pub fn image_file_in<R: Files + AllocGlobal>(rt: &R, path: &str) -> io::Result<V
     let mut file = fs::open(rt, path)?;
     let mut bytes = Vec::new(rt.alloc());
     read_up_to(&mut file, &mut bytes, MOST_HEADERS)?;
-    if wants_segments(rt.alloc(), &bytes) {
+    if matches!(parse(rt.alloc(), &bytes), Err(ElfFault::PastEnd)) {
         let end = end_of_segments(&bytes);
         read_up_to(&mut file, &mut bytes, end)?;
     }

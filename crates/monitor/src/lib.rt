@@ -5,6 +5,7 @@
 mod page_files;
 mod picture_files;
 mod program;
+mod shown_runs;
 
 pub use faults::Fault;
 pub use first_commands::end_without_arguments;

@@ -1,12 +1,15 @@
 //! Pages of runs.
+use crate::shown_runs::ShownRun;
+use command_line::{PageOptions, ProgramOptions};
 use exec_files::{LoadedProgram, Names, Places};
 use exec_reports::Family;
 use faults::{Fault, Refusal};
 use host_files::{source_lines, source_text};
+use run_files::{Input, of_subject, subject_in};
 use run_page::{PagedScript, write_json, write_page};
-use script_files::{of_script, script_in};
 use scripts::Setup;
-use std::io::Write;
+use std::alloc::{AllocError, Global};
+use std::io::{Read, Write};
 use std::rt::Files;
 
 /// The name of a file, without its folders.
@@ -17,93 +20,101 @@ fn name_in(path: &str) -> &str {
     }
 }
 
-/// What is known of a script's programs, of which each has a place for each process that it is booted in.
-struct Known {
-    programs: Vec<LoadedProgram>,
-    booted: Vec<Option<usize>>,
+/// The names of files, with a blank between them.
+fn names_in(alloc: Global, options: &ProgramOptions<'_>) -> Result<String, AllocError> {
+    let mut names = String::new(alloc);
+    for path in options.paths.as_slice() {
+        if !names.is_empty() {
+            names.push_str(" ")?;
+        }
+        names.push_str(name_in(path))?;
+    }
+    Ok(names)
 }
 
-impl Drop for Known {
-    fn drop(self) {
-        let Known {
-            programs: _programs,
-            booted: _booted,
-        } = self;
+/// Names the files of programs without their folders, since a page goes elsewhere.
+fn drop_folders(alloc: Global, programs: &mut [Option<LoadedProgram>]) -> Result<(), AllocError> {
+    for program in programs {
+        if let Some(program) = program {
+            let name = String::from_str(alloc, name_in(program.places.path.as_str()))?;
+            program.places.path = name;
+        }
     }
+    Ok(())
 }
 
-impl Known {
-    /// Nothing is known of the programs of a script.
-    fn none<R: AllocGlobal>(rt: &R, setup: &Setup) -> Result<Known, Fault> {
-        let mut booted = Vec::new(rt.alloc());
-        for _ in setup.programs.iter() {
-            booted.push(None)?;
-        }
-        Ok(Known {
-            programs: Vec::new(rt.alloc()),
-            booted,
-        })
-    }
-
-    /// Reads a source beside the programs that it assembles to. Refused where there is none.
-    fn read<R: Files + AllocGlobal>(
-        &mut self,
-        rt: &R,
-        setup: &mut Setup,
-        path: &str,
-    ) -> Result<(), Fault> {
-        let alloc = rt.alloc();
-        let source = source_text(rt, path)?;
-        let mut is_known = false;
-        for (program, place) in setup.programs.iter_mut().zip(self.booted.iter_mut()) {
-            let image = program.source.image(rt)?;
-            let Some(lines) = source_lines(alloc, path, source.as_str(), &image)? else {
-                continue;
-            };
-            *place = Some(self.programs.len());
-            is_known = true;
-            let places = Places {
-                path: String::from_str(alloc, name_in(path))?,
-                names: Names::Source(lines),
-            };
-            self.programs.push(LoadedProgram { image, places })?;
-        }
-        if is_known {
-            Ok(())
-        } else {
-            Err(Fault::from(Refusal::OtherImage).at(alloc, path))
-        }
-    }
-
-    fn into_family<R: AllocGlobal>(self, rt: &R) -> Result<Family, Fault> {
-        let Known { programs, booted } = self;
-        Ok(Family::of(rt.alloc(), programs, booted)?)
-    }
-}
-
-/// Makes a page of the run of the script in a file, or prints what the page has of it as JSON. Each source is that of a program of the
-/// script.
-pub fn page_file<R: Files + AllocGlobal, O: Write>(
+/// Reads a source beside the programs that it assembles to, of which its lines are known then. Refused where there is none.
+fn know_source<R: Files + AllocGlobal>(
     rt: &R,
+    setup: &mut Setup,
+    family: &mut Family,
     path: &str,
-    sources: &[&str],
-    json: bool,
-    out: &mut O,
 ) -> Result<(), Fault> {
-    let mut script = script_in(rt, path)?;
-    let mut known = Known::none(rt, &script.setup)?;
-    for source in sources {
-        of_script(rt, path, known.read(rt, &mut script.setup, source))?;
+    let alloc = rt.alloc();
+    let source = source_text(rt, path)?;
+    let mut is_known = false;
+    for (program, known) in setup
+        .programs
+        .iter_mut()
+        .zip(family.programs_mut().iter_mut())
+    {
+        let image = program.source.image(rt)?;
+        let Some(lines) = source_lines(alloc, path, source.as_str(), &image)? else {
+            continue;
+        };
+        is_known = true;
+        let places = Places {
+            path: String::from_str(alloc, path)?,
+            names: Names::Source(lines),
+        };
+        *known = Some(LoadedProgram { image, places });
     }
+    if is_known {
+        Ok(())
+    } else {
+        Err(Fault::from(Refusal::OtherImage).at(alloc, path))
+    }
+}
+
+fn make_page<R: Files + AllocGlobal, I: Read, O: Write, E: Write>(
+    rt: &R,
+    options: &PageOptions<'_>,
+    input: &mut I,
+    out: &mut O,
+    err: &mut E,
+) -> Result<(), Fault> {
+    let alloc = rt.alloc();
+    let subject = subject_in(rt, &options.programs, &mut Input::new(input))?;
+    let ShownRun {
+        mut script,
+        mut family,
+    } = ShownRun::of(rt, subject, options.limit, err)?;
+    for source in &options.sources {
+        know_source(rt, &mut script.setup, &mut family, source)?;
+    }
+    drop_folders(alloc, family.programs_mut())?;
+    let name = names_in(alloc, &options.programs)?;
     let paged = PagedScript {
-        name: name_in(path),
+        name: name.as_str(),
         script,
-        family: known.into_family(rt)?,
+        family,
     };
-    let written = if json {
+    if options.json {
         write_json(rt, paged, out)
     } else {
         write_page(rt, paged, out)
-    };
-    of_script(rt, path, written)
+    }
+}
+
+/// Makes a page of the run of programs, or of a script, or prints what the page has of it as JSON. The lines of sources are shown; those of an
+/// image, where its source is given too.
+pub fn page_programs<R: Files + AllocGlobal, I: Read, O: Write, E: Write>(
+    rt: &R,
+    options: &PageOptions<'_>,
+    input: &mut I,
+    out: &mut O,
+    err: &mut E,
+) -> Result<(), Fault> {
+    let done = make_page(rt, options, input, out, err);
+    of_subject(rt.alloc(), &options.programs, done)
 }

@@ -1,17 +1,35 @@
 //! Pictures of runs.
+use crate::shown_runs::ShownRun;
+use command_line::PictureOptions;
 use faults::Fault;
 use pictured_runs::picture;
-use script_files::{of_script, script_in};
-use std::io::Write;
+use run_files::{Input, of_subject, subject_in};
+use std::io::{Read, Write};
 use std::rt::Files;
 
-/// Draws the run of the script in a file, and in it the cone of an event, if a number is given.
-pub fn picture_file<R: Files + AllocGlobal, O: Write>(
+fn draw_run<R: Files + AllocGlobal, I: Read, O: Write, E: Write>(
     rt: &R,
-    path: &str,
-    cone: Option<u64>,
+    options: &PictureOptions<'_>,
+    input: &mut I,
     out: &mut O,
+    err: &mut E,
 ) -> Result<(), Fault> {
-    let script = script_in(rt, path)?;
-    of_script(rt, path, picture(rt, script, cone, out))
+    let subject = subject_in(rt, &options.programs, &mut Input::new(input))?;
+    let ShownRun {
+        script,
+        family: _family,
+    } = ShownRun::of(rt, subject, options.limit, err)?;
+    picture(rt, script, options.cone, out)
+}
+
+/// Draws the run of programs, or of a script, and in it the cone of an event, if a number is given.
+pub fn picture_programs<R: Files + AllocGlobal, I: Read, O: Write, E: Write>(
+    rt: &R,
+    options: &PictureOptions<'_>,
+    input: &mut I,
+    out: &mut O,
+    err: &mut E,
+) -> Result<(), Fault> {
+    let done = draw_run(rt, options, input, out, err);
+    of_subject(rt.alloc(), &options.programs, done)
 }

@@ -1,6 +1,6 @@
 //! `bench`, the whole program: the tasks of the first hour, and all others.
-use crate::page_files::page_file;
-use crate::picture_files::picture_file;
+use crate::page_files::page_programs;
+use crate::picture_files::picture_programs;
 use command_line::{Arguments, Task};
 use debug_sessions::{answer_gdb, debug_file, debug_live};
 use faults::Fault;
@@ -21,13 +21,9 @@ fn perform<
     E: Write,
 >(rt: &R, asked: &Arguments<'_>, input: &mut I, out: &mut O, err: &mut E) -> Result<u8, Fault> {
     let done = match &asked.task {
-        Task::Picture { script, cone } => picture_file(rt, script, *cone, out),
-        Task::Page {
-            script,
-            json,
-            sources,
-        } => page_file(rt, script, sources.as_slice(), *json, out),
-        Task::Explore(options) => return explore_programs(rt, options, out, err),
+        Task::Picture(options) => picture_programs(rt, options, input, out, err),
+        Task::Page(options) => page_programs(rt, options, input, out, err),
+        Task::Explore(options) => return explore_programs(rt, options, input, out, err),
         Task::Crashes(options) => return try_crashes(rt, options, input, out, err),
         Task::Debug {
             image,
@@ -49,7 +45,7 @@ fn perform<
             diff_files(rt, paths, out)
         }
         Task::Run(options) => return run_images(rt, options, asked.explain, input, out, err),
-        Task::Exec(options) => return Ok(execute(rt, options, input, out, err)),
+        Task::Exec(options) => return execute(rt, options, input, out, err),
         task => return perform_first(rt, task, input, out, err),
     };
     done?;

@@ -1,6 +1,6 @@
 //! The outcomes that are expected.
 use crate::outcome::is_outcome;
-use faults::{ExpectationFault, Fault};
+use faults::{Fault, Refusal};
 use std::alloc::Global;
 
 /// Whether a line may stand among expectations: it is an outcome, it is empty, or it is a comment.
@@ -12,7 +12,10 @@ fn may_stand(line: &str) -> bool {
 pub fn expectations_of(alloc: Global, text: &str) -> Result<Vec<&str>, Fault> {
     for (place, line) in text.split('\n').enumerate() {
         if !may_stand(line) {
-            return Err(ExpectationFault::of_line(alloc, place.saturating_add(1), line));
+            let refusal = Refusal::Expectations {
+                line: place.saturating_add(1),
+            };
+            return Err(Fault::of_line(alloc, refusal, line));
         }
     }
     Ok(text.split('\n').collect(alloc)?)

@@ -51,20 +51,14 @@ impl<'a> Findings<'a> {
         Ok(Some(number))
     }
 
-    /// Whether an outcome is expected.
-    fn is_expected(&self, text: &str) -> bool {
-        match &self.expected {
-            Some(lines) => lines.iter().any(|line| *line == text),
-            None => true,
-        }
-    }
-
     /// Refuses an outcome that is not expected.
     pub fn judge(&self, number: u64, outcome: &Outcome) -> Result<(), Fault> {
-        if self.is_expected(outcome.text.as_str()) {
-            return Ok(());
+        match &self.expected {
+            Some(lines) if !lines.iter().any(|line| *line == outcome.text.as_str()) => {
+                Err(Fault::from(ExplorationFault::NotExpected { outcome: number }))
+            }
+            _ => Ok(()),
         }
-        Err(Fault::from(ExplorationFault::NotExpected { outcome: number }))
     }
 }
 

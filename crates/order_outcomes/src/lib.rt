@@ -20,7 +20,6 @@ mod totals;
 pub use findings::{Findings, print_outcome};
 pub use merging::merge_parts;
 pub use outcome::Outcome;
-pub use part_fault::{MergeFault, PartFault};
 pub use part_file::{PartHead, write_end, write_head, write_outcome, write_state};
 pub use summed::Summed;
 pub use totals::Totals;

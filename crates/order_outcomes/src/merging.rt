@@ -6,7 +6,7 @@ ghost use Rattle.order_outcomes.specs.PartFiles.{AreOfOne, IsNoted};
 use crate::findings::{Findings, print_outcome};
 use crate::levels::levels_of;
 use crate::outcome::Outcome;
-use crate::part_fault::{MergeFault, PartFault, refused};
+use crate::part_fault::{PartFault, refused};
 use crate::part_file::PartHead;
 use crate::part_reading::{PartFile, PartState};
 use crate::totals::Totals;
@@ -16,13 +16,6 @@ use std::fs;
 use std::io::Write;
 use std::rt::Files;
 
-/// An outcome, by how many calls lead there.
-#[derive(PartialEq, Eq, PartialOrd, Ord, Drop)]
-struct NearOutcome {
-    calls: u64,
-    outcome: Outcome,
-}
-
 /// The parts that were read so far.
 #[derive(Drop)]
 struct Merging {
@@ -31,7 +24,7 @@ struct Merging {
     /// Which parts were read.
     read: Vec<bool>,
     states: Vec<PartState>,
-    outcomes: Vec<NearOutcome>,
+    outcomes: Vec<Outcome>,
 }
 
 /// Refuses a part of something else than the first one is of.
@@ -108,79 +101,64 @@ impl Merging {
         mark_read(&mut self.read, head.part.number)
     }
 
-    fn add(&mut self, file: PartFile) -> Result<(), PartFault> {
+    /// Reads the file of a part.
+    fn read(&mut self, alloc: Global, bytes: &[u8]) -> Result<(), PartFault> {
+        let mut file = PartFile::parse(alloc, bytes)?;
         self.note(file.head)?;
-        let PartFile {
-            head: _,
-            mut states,
-            outcomes,
-        } = file;
-        self.states.append(&mut states)?;
-        for outcome in outcomes {
-            let calls = outcome.calls.len() as u64;
-            self.outcomes.push(NearOutcome { calls, outcome })?;
-        }
+        self.states.append(&mut file.states)?;
+        self.outcomes.append(&mut file.outcomes)?;
         Ok(())
     }
 
-    /// Reads the file of a part.
-    fn read(&mut self, alloc: Global, bytes: &[u8]) -> Result<(), PartFault> {
-        let file = PartFile::parse(alloc, bytes)?;
-        self.add(file)
-    }
-
     /// Refuses a part that is missing.
-    fn test_all_read(&self) -> Result<(), MergeFault>
+    fn test_all_read(&self, alloc: Global) -> Result<(), Fault>
         ensures { OnOk result (position not self.now.read.items ≡ None) }
     {
         match first_missing(self.read.as_slice()) {
-            Some(place) => Err(MergeFault::Missing {
-                number: (place as u64).saturating_add(1),
-                of: self.read.len() as u64,
-            }),
+            Some(place) => {
+                let (number, of) = (place.saturating_add(1), self.read.len());
+                Err(refused(alloc, format_args!("{number}/{of}"), "is missing"))
+            }
             None => Ok(()),
         }
     }
 
     /// How far the whole search came.
-    fn totals(&mut self, alloc: Global) -> Result<Totals, AllocError> {
-        let most = match self.first {
-            Some(head) => head.states,
-            None => 0,
-        };
-        levels_of(alloc, &mut self.states, most)
+    fn totals(&mut self) -> Result<Totals, AllocError> {
+        let most = self.first.map_or(0, |head| head.states);
+        levels_of(&mut self.states, most)
     }
 }
 
 /// Reads the files of all parts.
-fn read_all<R: Files + AllocGlobal>(rt: &R, paths: &[&str]) -> Result<Merging, MergeFault> {
+fn read_all<R: Files + AllocGlobal>(rt: &R, paths: &[&str]) -> Result<Merging, Fault> {
     let alloc = rt.alloc();
     let mut merging = Merging::new(alloc);
-    for (place, path) in paths.iter().enumerate() {
+    for path in paths {
         let bytes = at_path(alloc, path, fs::read(rt, *path))?;
         if let Err(why) = merging.read(alloc, bytes.as_slice()) {
-            return Err(refused(place, why));
+            return Err(why.of(alloc, path));
         }
     }
-    merging.test_all_read()?;
+    merging.test_all_read(alloc)?;
     Ok(merging)
 }
 
 /// Prints each outcome that the whole search comes to, the nearest first. The first that is not expected is refused.
 fn print_outcomes<O: Write>(
     alloc: Global,
-    outcomes: &[NearOutcome],
+    outcomes: &[Outcome],
     totals: Totals,
     findings: &mut Findings<'_>,
     out: &mut O,
 ) -> Result<(), Fault> {
-    for near in outcomes {
-        if totals.left > 0 && near.calls >= totals.depth {
+    for outcome in outcomes {
+        if totals.left > 0 && outcome.calls.len() as u64 >= totals.depth {
             break;
         }
-        if let Some(number) = findings.keep(alloc, &near.outcome)? {
-            print_outcome(number, &near.outcome, out)?;
-            findings.judge(number, &near.outcome)?;
+        if let Some(number) = findings.keep(alloc, outcome)? {
+            print_outcome(number, outcome, out)?;
+            findings.judge(number, outcome)?;
         }
     }
     Ok(())
@@ -193,8 +171,9 @@ fn print_all<O: Write>(
     findings: &mut Findings<'_>,
     out: &mut O,
 ) -> Result<(), Fault> {
-    let totals = merging.totals(alloc)?;
+    let totals = merging.totals()?;
     merging.outcomes.sort()?;
+    merging.outcomes.sort_by_key(|outcome| outcome.calls.len())?;
     print_outcomes(alloc, merging.outcomes.as_slice(), totals, findings, out)?;
     totals.print(findings, out)?;
     totals.test_all(findings)
@@ -210,8 +189,8 @@ pub fn merge_parts<R: Files + AllocGlobal, O: Write>(
     paths: &[&str],
     expected: Option<&str>,
     out: &mut O,
-) -> Result<(), MergeFault> {
+) -> Result<(), Fault> {
     let mut findings = Findings::new(rt.alloc(), expected)?;
     let mut merging = read_all(rt, paths)?;
-    Ok(print_all(rt.alloc(), &mut merging, &mut findings, out)?)
+    print_all(rt.alloc(), &mut merging, &mut findings, out)
 }

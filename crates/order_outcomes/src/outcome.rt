@@ -1,6 +1,6 @@
 //! What a run comes to where no process can go on, as one line.
 use crash_outcomes::are_listed;
-use input_reading::decimal;
+use input_reading::{decimal, printed_decimal};
 
 /// What a run came to.
 #[derive(PartialEq, Eq, PartialOrd, Ord, Drop)]
@@ -20,16 +20,11 @@ pub fn runs_on_in(text: &str) -> bool {
     }
 }
 
-/// Whether a word is a number as it is printed: without a leading zero.
-fn is_number(word: &str) -> bool {
-    decimal(word).is_some() && (word == "0" || !word.starts_with('0'))
-}
-
 /// Whether a word says how a process stands.
 fn is_standing(word: &str) -> bool {
     match word.strip_prefix("waits-pipe-") {
-        Some(pipe) => is_number(pipe),
-        None => word == "waits-child" || word == "runs" || is_number(word),
+        Some(pipe) => printed_decimal(pipe).is_some(),
+        None => word == "waits-child" || word == "runs" || printed_decimal(word).is_some(),
     }
 }
 

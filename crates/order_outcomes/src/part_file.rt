@@ -55,19 +55,12 @@ impl fmt::Display for WayText<'_> {
 }
 
 pub fn write_head<O: Write>(head: PartHead, out: &mut O) -> io::Result<()> {
-    let PartHead {
-        programs,
-        instructions,
-        states,
-        calls,
-        part,
-    } = head;
-    let programs = KeyText(programs);
-    let Part { number, of } = part;
+    let (programs, part) = (KeyText(head.programs), head.part);
     writeln!(out, "{}", FORM)?;
     writeln!(
         out,
-        "programs {programs} limit {instructions} most-states {states} most-calls {calls} part {number} of {of}"
+        "programs {programs} limit {0} most-states {1} most-calls {2} part {3} of {4}",
+        head.instructions, head.states, head.calls, part.number, part.of
     )
 }
 
@@ -83,26 +76,22 @@ pub fn write_outcome<O: Write>(outcome: &Outcome, out: &mut O) -> io::Result<()>
     writeln!(out, "outcome {way} {text}")
 }
 
-/// The states that were left when the search was cut, and that it was; or that it is complete.
-fn write_left<O: Write>(left: &[Found<Vec<u32>>], calls: u64, out: &mut O) -> io::Result<()> {
-    for found in left {
-        let (key, moves) = (KeyText(found.key), found.moves);
-        writeln!(out, "left {key} {moves}")?;
-    }
-    if left.is_empty() {
-        writeln!(out, "{}", COMPLETE)
-    } else {
-        writeln!(out, "cut {calls}")
-    }
-}
-
-/// The end: what was left after so many calls, and the sum of all lines before the last.
+/// The end: the states that were left when the search was cut after so many calls, or that it is complete; and the sum of all lines before
+/// the last.
 pub fn write_end<O: Write>(
     left: &[Found<Vec<u32>>],
     calls: u64,
     out: &mut Summed<'_, O>,
 ) -> io::Result<()> {
-    write_left(left, calls, out)?;
+    for found in left {
+        let (key, moves) = (KeyText(found.key), found.moves);
+        writeln!(out, "left {key} {moves}")?;
+    }
+    if left.is_empty() {
+        writeln!(out, "{}", COMPLETE)?;
+    } else {
+        writeln!(out, "cut {calls}")?;
+    }
     let sum = KeyText(out.sum()?);
     writeln!(out, "sum {sum}")
 }

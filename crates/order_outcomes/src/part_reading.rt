@@ -2,9 +2,9 @@
 use crate::outcome::{Outcome, is_outcome, runs_on_in};
 use crate::part_fault::PartFault;
 use crate::part_file::{COMPLETE, FORM, PartHead};
-use input_reading::{decimal, hexadecimal};
+use input_reading::{decimal, decimal_word, hex_number};
 use state_search::{Key, Part, StateDigest};
-use std::alloc::{AllocError, Global};
+use std::alloc::Global;
 
 /// The most parts of a search.
 const MOST_PARTS: u64 = 9999;
@@ -31,17 +31,15 @@ pub struct PartFile {
 }
 
 /// The key that 32 hexadecimal digits spell.
-fn key_of(text: &str) -> Option<Key> {
-    let (first, second) = (text.get(..8)?, text.get(8..16)?);
-    let (third, fourth) = (text.get(16..24)?, text.get(24..)?);
+fn key_of(digits: &str) -> Option<Key> {
+    let (high, low) = digits.split_at_checked(16)?;
+    if low.len() != 16 {
+        return None;
+    }
     Some(Key {
-        high: joined(hexadecimal(first)?, hexadecimal(second)?),
-        low: joined(hexadecimal(third)?, hexadecimal(fourth)?),
+        high: hex_number(high)?,
+        low: hex_number(low)?,
     })
-}
-
-fn joined(high: u32, low: u32) -> u64 {
-    (u64::from(high) << 32) | u64::from(low)
 }
 
 fn part_of(number: &str, of: &str) -> Option<Part> {
@@ -53,33 +51,29 @@ fn part_of(number: &str, of: &str) -> Option<Part> {
     }
 }
 
-/// The word after the one at a place. None where that is another one.
-fn after<'a>(words: &[&'a str], place: usize, label: &str) -> Option<&'a str> {
-    match words.get(place..) {
-        Some([first, second, ..]) if *first == label => Some(*second),
-        _ => None,
-    }
-}
-
-/// What the words of the second line say. None where they have no form.
-fn head_of(words: &[&str]) -> Option<PartHead> {
-    if words.len() != 12 {
-        return None;
-    }
+/// What the second line says.
+fn head_of(line: &str) -> Option<PartHead> {
+    let (programs, line) = line.strip_prefix("programs ")?.split_once(" limit ")?;
+    let (instructions, line) = line.split_once(" most-states ")?;
+    let (states, line) = line.split_once(" most-calls ")?;
+    let (calls, line) = line.split_once(" part ")?;
+    let (number, of) = line.split_once(" of ")?;
     Some(PartHead {
-        programs: key_of(after(words, 0, "programs")?)?,
-        instructions: decimal(after(words, 2, "limit")?)?,
-        states: decimal(after(words, 4, "most-states")?)?,
-        calls: decimal(after(words, 6, "most-calls")?)?,
-        part: part_of(after(words, 8, "part")?, after(words, 10, "of")?)?,
+        programs: key_of(programs)?,
+        instructions: decimal(instructions)?,
+        states: decimal(states)?,
+        calls: decimal(calls)?,
+        part: part_of(number, of)?,
     })
 }
 
-/// The state of a line's words. None where they have no form.
-fn state_of(words: &[&str]) -> Option<PartState> {
-    let (key, moves, calls) = match words {
-        ["state", key, moves, calls] => (key, moves, decimal(calls)?),
-        ["left", key, moves] => (key, moves, 0),
+/// The state of a line `state KEY MOVES CALLS` or `left KEY MOVES`.
+fn state_of(line: &str) -> Option<PartState> {
+    let (kind, line) = line.split_once(' ')?;
+    let (key, line) = line.split_once(' ')?;
+    let (moves, calls) = match kind {
+        "state" => line.split_once(' ')?,
+        "left" => (line, "0"),
         _ => return None,
     };
     let Key { high, low } = key_of(key)?;
@@ -87,41 +81,20 @@ fn state_of(words: &[&str]) -> Option<PartState> {
         high,
         low,
         moves: decimal(moves)?,
-        is_left: words.len() == 3,
-        calls,
+        is_left: kind == "left",
+        calls: decimal(calls)?,
     })
 }
 
-/// The process that a word of a way names. None where it has no form.
-fn pid_of(word: &str) -> Option<u32> {
-    u32::try_from(decimal(word)?).ok()
-}
-
-fn is_way(text: &str) -> bool {
-    text == "-" || text.split(',').all(|word| pid_of(word).is_some())
-}
-
-/// The processes that a way names.
-fn way_of(alloc: Global, text: &str) -> Result<Vec<u32>, AllocError> {
-    text.split(',').filter_map(pid_of).collect(alloc)
-}
-
-/// The outcome of a line. None where it has no form.
-fn outcome_of(alloc: Global, line: &str) -> Result<Option<Outcome>, AllocError> {
-    let Some((way, text)) = line
-        .strip_prefix("outcome ")
-        .and_then(|rest| rest.split_once(' '))
-    else {
-        return Ok(None);
-    };
-    if !is_way(way) || !is_outcome(text) {
-        return Ok(None);
+/// The way and the text of an outcome's line.
+fn outcome_in(line: &str) -> Option<(&str, &str)> {
+    let (way, text) = line.strip_prefix("outcome ")?.split_once(' ')?;
+    let is_way = way == "-" || way.split(',').all(|word| decimal_word(word).is_some());
+    if is_way && is_outcome(text) {
+        Some((way, text))
+    } else {
+        None
     }
-    Ok(Some(Outcome {
-        text: String::from_str(alloc, text)?,
-        calls: way_of(alloc, way)?,
-        runs_on: runs_on_in(text),
-    }))
 }
 
 /// Whether a line says how the search ended.
@@ -130,80 +103,62 @@ fn is_end(line: &str) -> bool {
 }
 
 impl PartFile {
-    /// Adds what a line after the second has. False where it has no form.
-    fn read(&mut self, alloc: Global, line: &str) -> Result<bool, AllocError> {
-        if let Some(outcome) = outcome_of(alloc, line)? {
-            self.outcomes.push(outcome)?;
-            return Ok(true);
+    /// Adds what a line after the second has.
+    fn read(&mut self, alloc: Global, line: &str) -> Result<(), PartFault> {
+        if let Some(state) = state_of(line) {
+            self.states.push(state)?;
+        } else if let Some((way, text)) = outcome_in(line) {
+            self.outcomes.push(Outcome {
+                text: String::from_str(alloc, text)?,
+                calls: way.split(',').filter_map(decimal_word).collect(alloc)?,
+                runs_on: runs_on_in(text),
+            })?;
+        } else if !is_end(line) {
+            return Err(PartFault::Damaged);
         }
-        let words: Vec<&str> = line.split(' ').collect(alloc)?;
-        match state_of(words.as_slice()) {
-            Some(state) => {
-                self.states.push(state)?;
-                Ok(true)
-            }
-            None => Ok(is_end(line)),
-        }
+        Ok(())
     }
 
-    /// The second line alone.
-    fn begin(alloc: Global, line: &str) -> Result<PartFile, PartFault> {
-        let words: Vec<&str> = line.split(' ').collect(alloc)?;
-        match head_of(words.as_slice()) {
-            Some(head) => Ok(PartFile {
-                head,
-                states: Vec::new(alloc),
-                outcomes: Vec::new(alloc),
-            }),
-            None => Err(PartFault::Damaged),
-        }
-    }
-
-    /// Reads the lines between the first and that of the sum.
+    /// Reads the lines before that of the sum.
     fn of_lines(alloc: Global, text: &str) -> Result<PartFile, PartFault> {
-        let mut lines = text.split('\n');
-        let Some(second) = lines.next() else {
+        let mut lines = text.split('\n').skip(1);
+        let Some(head) = lines.next().and_then(head_of) else {
             return Err(PartFault::Damaged);
         };
-        let mut file = PartFile::begin(alloc, second)?;
+        let mut file = PartFile {
+            head,
+            states: Vec::new(alloc),
+            outcomes: Vec::new(alloc),
+        };
         for line in lines {
-            if !file.read(alloc, line)? {
-                return Err(PartFault::Damaged);
-            }
+            file.read(alloc, line)?;
         }
         Ok(file)
     }
 
     /// Reads the file of a part. It is refused where its first line is not that of such files, and where its sum is wrong.
     pub fn parse(alloc: Global, bytes: &[u8]) -> Result<PartFile, PartFault> {
-        let Some(rest) = after_form(bytes) else {
-            return Err(PartFault::NoPart);
-        };
-        match summed_in(rest) {
-            Some((lines, sum)) if sum == sum_of(lines) => PartFile::of_lines(alloc, lines),
-            _ => Err(PartFault::Damaged),
+        let text = str::from_utf8(bytes).unwrap_or("");
+        match text.split_once('\n') {
+            Some((first, _rest)) if first == FORM => {}
+            _ => return Err(PartFault::NoPart),
+        }
+        match summed_in(text) {
+            Some(lines) => PartFile::of_lines(alloc, lines),
+            None => Err(PartFault::Damaged),
         }
     }
 }
 
-/// What stands after the first line of the file of a part. None of another file.
-fn after_form(bytes: &[u8]) -> Option<&str> {
-    let text = str::from_utf8(bytes).ok()?;
-    text.strip_prefix(FORM)?.strip_prefix('\n')
-}
-
-/// The lines before the last, without the end of their last; and the sum that the last one has, whose end has to be there.
-fn summed_in(text: &str) -> Option<(&str, Key)> {
+/// The lines before the last, if that has the sum of theirs, and an end.
+fn summed_in(text: &str) -> Option<&str> {
     let (lines, last) = text.strip_suffix('\n')?.rsplit_once('\n')?;
-    Some((lines, key_of(last.strip_prefix("sum ")?)?))
-}
-
-/// The sum of the first line and of these.
-fn sum_of(lines: &str) -> Key {
     let mut digest = StateDigest::new();
-    digest.text(FORM.as_bytes());
-    digest.text(b"\n");
     digest.text(lines.as_bytes());
     digest.text(b"\n");
-    digest.key()
+    if key_of(last.strip_prefix("sum ")?)? == digest.key() {
+        Some(lines)
+    } else {
+        None
+    }
 }

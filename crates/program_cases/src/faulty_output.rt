@@ -16,6 +16,10 @@ const SCRIPT: &[u8] =
 /// What is said where the output fails.
 const FAILED: &str = "bench: input or output failed\n";
 
+/// What a command for people says where a stream fails, and the host's reason is not known any more.
+pub const STREAMS: &str =
+    "bench: standard input could not be read as text, or standard output not be written\n";
+
 /// What is said where memory runs out.
 const OUT_OF_MEMORY: &str = "bench: out of memory\n";
 
@@ -70,8 +74,8 @@ fn check_output(
     check_run(alloc, program, line, Input::new(alloc, SCRIPT)?, out, end)
 }
 
-/// As `check_run`, with a pipe as the output that nobody reads.
-pub fn check_closed(
+/// As `check_run`, on the script, with an output that takes no write.
+pub fn check_unwritable(
     alloc: Global,
     program: Program<'_>,
     line: &str,
@@ -79,7 +83,7 @@ pub fn check_closed(
 ) -> Result<(), Error>
     requires { IsAlwaysCallable program.now }
 {
-    let out = Output::with_room(alloc, 0, ErrorKind::BrokenPipe);
+    let out = Output::with_room(alloc, 0, ErrorKind::InvalidData);
     check_output(alloc, program, line, out, end)
 }
 
@@ -93,7 +97,7 @@ fn check_input(
 ) -> Result<(), Error>
     requires { IsAlwaysCallable program.now }
 {
-    let out = Output::with_room(alloc, 0, ErrorKind::BrokenPipe);
+    let out = Output::with_room(alloc, 0, failure);
     check_run(
         alloc,
         program,
@@ -105,12 +109,13 @@ fn check_input(
 }
 
 /// One write is enough for all output, of a script and of help. Where no write is taken, the status is 6, or 5 where memory runs
-/// out. The same holds where the input cannot be read.
+/// out. The same holds where the input cannot be read. Nothing is said where nobody reads the output any more.
 pub fn check_faulty_output(alloc: Global, program: Program<'_>) -> Result<String, Error>
     requires { IsAlwaysCallable program.now }
 {
     for (failure, end) in [
-        (ErrorKind::BrokenPipe, (6, FAILED)),
+        (ErrorKind::InvalidData, (6, FAILED)),
+        (ErrorKind::BrokenPipe, (6, "")),
         (ErrorKind::OutOfMemory, (5, OUT_OF_MEMORY)),
     ] {
         for line in ["", "--help"] {
@@ -134,13 +139,13 @@ pub fn check_endless_run<R: Files<File = File> + AllocGlobal>(
 {
     let alloc = rt.alloc();
     check_status(alloc, program, "asm endless.s endless", 0)?;
-    check_closed(alloc, program, "run endless", (6, FAILED))?;
+    check_unwritable(alloc, program, "run endless", (6, FAILED))?;
     check_input(
         alloc,
         program,
         "gdb endless",
-        ErrorKind::BrokenPipe,
-        (6, FAILED),
+        ErrorKind::InvalidData,
+        (6, STREAMS),
     )?;
     fs::remove_file(rt, "endless")?;
     Ok(String::from_str(alloc, "a run without end whose output fails")?)

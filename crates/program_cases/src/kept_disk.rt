@@ -1,6 +1,6 @@
 //! Tests the file in which a run keeps its disk: the files beside it, its rights, links at its path, and the lock by which one run
 //! has it. Other files that the program writes are tested too, with links and rights.
-use crate::faulty_output::check_closed;
+use crate::faulty_output::{STREAMS, check_unwritable};
 use crate::program::Program;
 use crate::running::{ENDS, check_status};
 use anyhow::{Error, ensure};
@@ -124,11 +124,6 @@ fn check_durable_link<R: Files<File = File> + AllocGlobal>(
     Ok(fs::remove_file(rt, "linked")?)
 }
 
-/// The lines where no file is to blame.
-const NO_FILE: &str = "bench: input or output failed
-bench: standard input could not be read as text, or standard output not be written
-";
-
 /// A session writes no disk. So where its output fails, and the reason is told, the file beside the disk stays as it is: another run may
 /// be writing it.
 fn check_session<R: Files<File = File> + AllocGlobal>(
@@ -139,7 +134,7 @@ fn check_session<R: Files<File = File> + AllocGlobal>(
 {
     fs::write(rt, "kept.new", "text")?;
     let words = "debug --live --explain --disk kept ends";
-    check_closed(rt.alloc(), program, words, (6, NO_FILE))?;
+    check_unwritable(rt.alloc(), program, words, (6, STREAMS))?;
     let text = fs::read_to_string(rt, "kept.new")?;
     ensure!(
         text.as_str() == "text",
@@ -217,7 +212,7 @@ fn check_left<R: Files<File = File> + AllocGlobal>(
         check_status(rt.alloc(), program, words, 125)?;
     }
     let end = (125, "bench: standard output could not be written\n");
-    check_closed(rt.alloc(), program, "exec --record made printer.s", end)?;
+    check_unwritable(rt.alloc(), program, "exec --record made printer.s", end)?;
     let text = fs::read_to_string(rt, "made")?;
     ensure!(
         text.as_str() == "text",

@@ -5,6 +5,7 @@ use crate::running::run;
 use anyhow::Error;
 use case_format::{CallsCase, IMAGE_NAME, Ran, Run, Step, check_missing, session_steps};
 use std::fs::{self, File};
+use std::io;
 use std::rt::Files;
 
 /// Runs a case's script, and compares the cones of its events with its runs.
@@ -65,6 +66,14 @@ fn play_run<R: Files<File = File> + AllocGlobal>(
     wanted.check(&ran)
 }
 
+/// Removes a file, or a folder in which nothing is left.
+fn remove<R: Files>(rt: &R, name: &str) -> io::Result<()> {
+    match fs::remove_file(rt, name) {
+        Ok(()) => Ok(()),
+        Err(_) => fs::remove_dir(rt, name),
+    }
+}
+
 fn play_step<R: Files<File = File> + AllocGlobal>(
     rt: &R,
     program: Program<'_>,
@@ -77,7 +86,7 @@ fn play_step<R: Files<File = File> + AllocGlobal>(
         Step::Lines(file) | Step::Bytes(file) => {
             Ok(fs::write(rt, file.name.as_str(), file.bytes.as_slice())?)
         }
-        Step::Remove(name) => Ok(fs::remove_file(rt, name.as_str())?),
+        Step::Remove(name) => Ok(remove(rt, name.as_str())?),
         Step::Holds(file) => file.check(&fs::read(rt, file.name.as_str())?),
         Step::Missing(name) => check_missing(fs::read(rt, name.as_str()).is_err()),
     }

@@ -42,7 +42,7 @@ impl Recovery {
                 limit,
                 nested,
             },
-            family: Family::new(alloc, programs)?,
+            family: Family::new(alloc, programs, 1)?,
         })
     }
 }

@@ -1,40 +1,36 @@
 //! What `exec` keeps of a run at its end: a log, a script, and a picture.
 use crate::exec_outputs::Outputs;
-use exec_records::{Recorded, write_script};
+use exec_records::{steps_of, write_script};
 use faults::Fault;
-use host_files::text_of_file;
+use kernel::Core;
 use pictured_runs::picture;
-use scripts::Script;
+use scripts::{Script, Setup};
 use std::rt::Files;
 
-/// The picture of the run of a script.
-fn picture_of<R: Files + AllocGlobal>(rt: &R, script: &[u8]) -> Result<Vec<u8>, Fault> {
-    let text = text_of_file(rt.alloc(), "the script of the run", script)?;
-    let mut svg: Vec<u8> = Vec::new(rt.alloc());
-    picture(rt, Script::parse(rt.alloc(), text)?, None, &mut svg)?;
-    Ok(svg)
-}
-
-/// Puts the log of a run in its place, and the script and the picture, each if it is wanted.
+/// Puts the log of a run of what is set up in its place, and the script and the picture, each if it is wanted.
 pub fn keep_outputs<R: Files + AllocGlobal>(
     rt: &R,
     mut outputs: Outputs<'_, R>,
-    recorded: Recorded<'_, '_, '_>,
+    setup: Option<Setup>,
+    core: &Core,
 ) -> Result<(), Fault> {
     if let Some(log) = outputs.log.take() {
         log.keep()?;
     }
-    if outputs.record.is_none() && outputs.picture.is_none() {
+    let Some(setup) = setup else {
         return Ok(());
-    }
+    };
     let alloc = rt.alloc();
-    let mut script: Vec<u8> = Vec::new(alloc);
-    write_script(alloc, recorded, &mut script)?;
     if let Some(record) = outputs.record.take() {
+        let mut script: Vec<u8> = Vec::new(alloc);
+        write_script(alloc, &setup, core, &mut script)?;
         record.keep_with(script.as_slice())?;
     }
-    if let Some(picture) = outputs.picture.take() {
-        picture.keep_with(picture_of(rt, script.as_slice())?.as_slice())?;
+    if let Some(drawn) = outputs.picture.take() {
+        let steps = steps_of(alloc, core.history())?;
+        let mut svg: Vec<u8> = Vec::new(alloc);
+        picture(rt, Script { setup, steps }, None, &mut svg)?;
+        drawn.keep_with(svg.as_slice())?;
     }
     Ok(())
 }

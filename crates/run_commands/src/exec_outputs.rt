@@ -32,6 +32,14 @@ struct Taken {
 }
 
 impl Taken {
+    /// Adds a file that is read, unless it is standard input.
+    fn push_read<R: Files + AllocGlobal>(&mut self, rt: &R, path: &str) -> Result<(), Fault> {
+        if path != "-" {
+            self.read.push(Place::of(rt, path)?)?;
+        }
+        Ok(())
+    }
+
     /// Before any output is taken.
     fn new<R: Files + AllocGlobal>(rt: &R, options: &ExecOptions<'_>) -> Result<Taken, Fault> {
         let mut taken = Taken {
@@ -39,13 +47,11 @@ impl Taken {
             written: Vec::new(rt.alloc()),
         };
         for path in options.run.images.as_slice() {
-            taken.read.push(Place::of(rt, *path)?)?;
+            taken.push_read(rt, *path)?;
         }
         for path in options.run.tapes.as_slice() {
-            if let Some(path) = *path
-                && path != "-"
-            {
-                taken.read.push(Place::of(rt, path)?)?;
+            if let Some(path) = *path {
+                taken.push_read(rt, path)?;
             }
         }
         if let Some(path) = options.run.disk {

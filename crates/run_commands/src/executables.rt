@@ -1,19 +1,20 @@
-//! The programs of `exec`, and copies of its tapes.
+//! The programs of `exec`.
 ghost use Rattle.std.specs.Prelude.{◌≡◌, ◌<◌, ◌≤◌, length, IfOk};
 ghost use Rattle.std.specs.List.{AllByRecursion};
 ghost use Rattle.kernel_model.specs.World.{most_programs, terminal_count};
 
-use byte_list::Bytes;
-use exec_files::{LoadedProgram, load};
+use exec_files::LoadedProgram;
 use faults::Fault;
 use kernel::Program;
-use std::alloc::Global;
+use run_files::{Input, program_in};
+use std::io::Read;
 use std::rt::Files;
 
 /// The programs of files, each with the terminal of its place, and what is known of them.
-pub fn programs_in<R: Files + AllocGlobal>(
+pub fn programs_in<R: Files + AllocGlobal, I: Read>(
     rt: &R,
     paths: &[&str],
+    input: &mut Input<'_, I>,
 ) -> Result<(Vec<Program>, Vec<LoadedProgram>), Fault>
     requires few { length paths.now ≤ most_programs }
     ensures len { IfOk result (λ both. length both.0.items ≡ length paths.now) }
@@ -23,19 +24,10 @@ pub fn programs_in<R: Files + AllocGlobal>(
     let mut known = Vec::new(rt.alloc());
     for path in paths {
         let terminal = programs.len() as u32;
-        let loaded = load(rt, path)?;
+        let loaded = program_in(rt, path, input)?;
         let image = loaded.image.try_clone(rt.alloc())?;
         programs.push(Program { image, terminal })?;
         known.push(loaded)?;
     }
     Ok((programs, known))
-}
-
-/// Copies of tapes.
-pub fn copies_of(alloc: Global, tapes: &[Bytes]) -> Result<Vec<Bytes>, Fault> {
-    let mut copies = Vec::new(alloc);
-    for tape in tapes {
-        copies.push(tape.try_clone(alloc)?)?;
-    }
-    Ok(copies)
 }

@@ -1,40 +1,60 @@
 //! Runs of programs for people.
-use crate::executables::{copies_of, programs_in};
+use crate::executables::programs_in;
 use crate::execution::Execution;
 use crate::observing::Watching;
+use byte_list::Bytes;
 use command_line::ExecOptions;
+use exec_files::LoadedProgram;
 use exec_reports::Family;
-use faults::{Fault, write_line};
-use run_files::{Setup, boot_on, of_disk, tapes_in};
+use faults::Fault;
+use run_files::{Booted, Input, boot_on, of_disk, setup_of, tapes_in};
+use scripts::Setup;
+use std::alloc::Global;
 use std::fs::File;
-use std::io::{self, Read, Write};
+use std::io::{Read, Write};
 use std::rt::Files;
 use std::sync::Wait;
 use std::thread::Threads;
 
-/// The exit status where the command line or a file is refused.
-pub const REFUSED: u8 = 125;
+/// What is set up, if the run is to be recorded or drawn.
+fn recorded_of(
+    alloc: Global,
+    options: &ExecOptions<'_>,
+    programs: &[LoadedProgram],
+    tapes: &[Bytes],
+) -> Result<Option<Setup>, Fault> {
+    if options.record.is_none() && options.picture.is_none() {
+        return Ok(None);
+    }
+    Ok(Some(setup_of(alloc, programs, tapes)?))
+}
 
 /// Reads the programs and the tapes of a run, and boots its core.
 fn prepare<'a, R: Files<File = File> + AllocGlobal, I: Read>(
     rt: &'a R,
     options: &'a ExecOptions<'a>,
     input: &mut I,
-) -> Result<(Execution<'a, R>, Setup), Fault> {
-    let (programs, loaded) = programs_in(rt, options.run.images.as_slice())?;
-    let tapes = tapes_in(rt, options.run.tapes.as_slice(), input)?;
-    let family = Family::new(rt.alloc(), loaded)?;
+) -> Result<(Execution<'a, R>, Booted), Fault> {
+    let alloc = rt.alloc();
+    let mut input = Input::new(input);
+    let (programs, loaded) = programs_in(rt, options.run.images.as_slice(), &mut input)?;
+    let tapes = tapes_in(rt, options.run.tapes.as_slice(), &mut input)?;
+    let setup = recorded_of(alloc, options, loaded.as_slice(), tapes.as_slice())?;
+    let count = loaded.len();
+    let family = Family::new(alloc, loaded, count)?;
     let execution = Execution {
         rt,
         options,
-        watching: Watching::new(rt.alloc(), options, family),
-        tapes: copies_of(rt.alloc(), tapes.as_slice())?,
+        watching: Watching::new(alloc, options, family),
+        setup,
     };
-    let setup = boot_on(rt, &options.run, programs, tapes)?;
-    Ok((execution, setup))
+    let booted = boot_on(rt, &options.run, programs, tapes)?;
+    Ok((execution, booted))
 }
 
-fn try_execute<
+/// Runs programs to their end, as `run_images` does, but by turns unless threads are asked for. Gives the exit status: that of the first
+/// program, or why the run ended.
+pub fn execute<
     R: Files<File = File> + AllocGlobal + Threads + Wait + Sync,
     I: Read,
     O: Write,
@@ -46,31 +66,4 @@ fn try_execute<
         lock.release(rt);
     }
     of_disk(rt.alloc(), options.run.disk, done)
-}
-
-/// Prints the reason of a fault, or the fault where none is known. Want of memory is told as it is.
-fn print_fault<E: Write>(fault: &Fault, err: &mut E) -> io::Result<()> {
-    if matches!(fault, Fault::OutOfMemory) || !fault.explain(err)? {
-        write_line(err, format_args!("{fault}"))?;
-    }
-    Ok(())
-}
-
-/// Runs programs to their end, as `run_images` does, but by turns unless threads are asked for. Gives the exit status: that of the first
-/// program, or why the run ended; 125 where the run was refused, or cut short. Then a line on `err` has the reason.
-pub fn execute<
-    R: Files<File = File> + AllocGlobal + Threads + Wait + Sync,
-    I: Read,
-    O: Write,
-    E: Write,
->(rt: &R, options: &ExecOptions<'_>, input: &mut I, out: &mut O, err: &mut E) -> u8 {
-    match try_execute(rt, options, input, out, err) {
-        Ok(status) => status,
-        Err(fault) => {
-            let _ = out.flush();
-            // Where the line cannot be written either, the status still tells.
-            let _ = print_fault(&fault, err);
-            REFUSED
-        }
-    }
 }

@@ -5,16 +5,16 @@ use crate::fault::of_run;
 use crate::observing::Watching;
 use crate::running::settings_of;
 use crate::showing::Showing;
-use byte_list::Bytes;
 use command_line::ExecOptions;
 use durable_disk::HostFile;
-use exec_records::{EndedRun, Recorded, write_json};
+use exec_records::{EndedRun, write_json};
 use exec_reports::{print_ending, status_of_run};
 use exec_runs::{Ending, Order, Turns};
 use executor::{Run, RunFault};
 use faults::{Fault, Refusal};
 use kernel::{Answer, Core, Event};
 use run_files::keep_disk;
+use scripts::Setup;
 use std::fs::File;
 use std::io::Write;
 use std::rt::Files;
@@ -26,7 +26,8 @@ pub struct Execution<'a, R> {
     pub rt: &'a R,
     pub options: &'a ExecOptions<'a>,
     pub watching: Watching,
-    pub tapes: Vec<Bytes>,
+    /// What is recorded, or drawn, of the run before its events.
+    pub setup: Option<Setup>,
 }
 
 impl<R> Drop for Execution<'_, R> {
@@ -35,7 +36,7 @@ impl<R> Drop for Execution<'_, R> {
             rt: _,
             options: _,
             watching: _watching,
-            tapes: _tapes,
+            setup: _setup,
         } = self;
     }
 }
@@ -106,16 +107,6 @@ impl<R: Files<File = File> + AllocGlobal + Threads + Wait + Sync> Execution<'_, 
         Ok((core, ending))
     }
 
-    /// Keeps the files that the run is to write.
-    fn keep_outputs(&self, outputs: Outputs<'_, R>, core: &Core) -> Result<(), Fault> {
-        let recorded = Recorded {
-            core,
-            family: &self.watching.family,
-            tapes: self.tapes.as_slice(),
-        };
-        keep_outputs(self.rt, outputs, recorded)
-    }
-
     /// Writes the run as an object of JSON, if that is asked for, and what has not gone out.
     fn write_out<O: Write>(&self, core: &Core, ending: Ending, out: &mut O) -> Result<(), Fault> {
         if let Some(counts) = &self.watching.counts {
@@ -170,7 +161,7 @@ impl<R: Files<File = File> + AllocGlobal + Threads + Wait + Sync> Execution<'_, 
             self.watching.log_to(self.options.logged, log.try_clone()?)?;
         }
         let (core, ending) = self.run_whole(booted, out, err)?;
-        let kept = self.keep_outputs(outputs, &core);
+        let kept = keep_outputs(self.rt, outputs, self.setup.take(), &core);
         let status = self.finish((core, ending), out, err)?;
         kept?;
         Ok(status)

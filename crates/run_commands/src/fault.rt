@@ -1,6 +1,6 @@
 //! Makes the program's `Fault` of the fault of a run.
 use executor::RunFault;
-use faults::{Fault, Refusal, Sentence, Why};
+use faults::{Fault, Refusal};
 
 /// The program's fault where a run by worker threads ends early.
 pub fn of_run(fault: RunFault) -> Fault {
@@ -8,9 +8,6 @@ pub fn of_run(fault: RunFault) -> Fault {
         RunFault::OutOfMemory => Fault::OutOfMemory,
         RunFault::DiskFailed => Fault::from(Refusal::DiskFailed),
         // (the system's reason is not known)
-        RunFault::Output => Fault::new(
-            Refusal::InputOutput,
-            Some(Why::Text(Sentence::OutputFailed)),
-        ),
+        RunFault::Output => Fault::from(Refusal::Output),
     }
 }

@@ -14,6 +14,6 @@ mod observing;
 mod running;
 mod showing;
 
-pub use executing::{REFUSED, execute};
+pub use executing::execute;
 pub use logs::{LogPaths, diff_files};
 pub use running::run_images;

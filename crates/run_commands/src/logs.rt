@@ -86,9 +86,9 @@ fn diff_logs<R: Files + AllocGlobal, O: Write>(
         }
         Compared::Different(difference) => {
             print_difference(paths, places, &difference, out)?;
-            Err(Fault::Logs {
+            Err(Fault::from(Refusal::Logs {
                 instruction: difference.number,
-            })
+            }))
         }
     }
 }

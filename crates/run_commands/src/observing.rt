@@ -119,7 +119,7 @@ impl Watching {
     /// Prints how often each part of the first program was executed, if that is asked for.
     pub fn print_profile<E: Write>(&self, err: &mut E) -> Result<(), Fault> {
         match (&self.profile, self.family.programs()) {
-            (Some(profile), [program, ..]) => profile.print(program, err),
+            (Some(profile), [Some(program), ..]) => profile.print(program, err),
             _ => Ok(()),
         }
     }

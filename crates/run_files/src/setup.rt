@@ -1,78 +1,20 @@
 //! `boot`: the core of a run of images, from files of the host. `keep_disk`: the disk that a run leaves, in its file.
-ghost use Rattle.std.specs.Prelude.{◌≡◌, ◌≤◌, ◌<◌, true, length, IfOk};
+ghost use Rattle.std.specs.Prelude.{◌≡◌, ◌≤◌, ◌<◌, length, IfOk};
 ghost use Rattle.std.specs.List.{AllByRecursion};
-ghost use Rattle.disk_model.specs.Storage.{is_quiet};
 ghost use Rattle.kernel_model.specs.World.{most_programs, tape_count, terminal_count};
 
+use crate::inputs::{Input, tapes_in};
 use byte_list::Bytes;
-use command_line::{LiveOptions, RunOptions};
+use command_line::RunOptions;
 use durable_disk::HostFile;
-use faults::{Fault, Refusal, Role, Sentence, Why, at_path};
+use faults::{Fault, Role};
 use host_files::{DiskLock, disk_or_zeros, image_in, keep, open_durable, test_place, zeros};
-use input_reading::{MOST_TAPE_BYTES, bytes_in};
-use kernel::{Core, Program, SimDisk};
-use machine_model::Image;
+use kernel::{Core, Program};
 use scripts::boot_fault;
 use std::alloc::Global;
 use std::fs::File;
-use std::io::{self, Read};
+use std::io::Read;
 use std::rt::Files;
-
-/// The bytes of a reader to its end, or of its beginning where it has more than a tape may have.
-fn tape_bytes<I: Read>(alloc: Global, input: &mut I) -> io::Result<Vec<u8>> {
-    let mut bytes = Vec::new(alloc);
-    input
-        .take((MOST_TAPE_BYTES as u64).saturating_add(1))
-        .read_to_end(&mut bytes)?;
-    Ok(bytes)
-}
-
-/// A tape of the bytes that were read of a file. InputOutput where there are more than a tape may have.
-fn tape_of(alloc: Global, path: &str, read: io::Result<Vec<u8>>) -> Result<Bytes, Fault> {
-    let bytes = at_path(alloc, path, read)?;
-    if bytes.len() > MOST_TAPE_BYTES {
-        let why = Why::Text(Sentence::LongTape);
-        return Err(Fault::new(Refusal::InputOutput, Some(why)).at(alloc, path));
-    }
-    Ok(Bytes::new(bytes))
-}
-
-/// The tape in a file.
-fn tape_at<R: Files + AllocGlobal>(rt: &R, path: &str) -> Result<Bytes, Fault> {
-    tape_of(rt.alloc(), path, bytes_in(rt, path, MOST_TAPE_BYTES))
-}
-
-/// The tape in a file; by `-` what is left of the input.
-fn tape_in<R: Files + AllocGlobal, I: Read>(
-    rt: &R,
-    path: &str,
-    input: &mut I,
-) -> Result<Bytes, Fault> {
-    match path {
-        "-" => tape_of(rt.alloc(), "standard input", tape_bytes(rt.alloc(), input)),
-        path => tape_at(rt, path),
-    }
-}
-
-/// The tapes of a run, in order; one without a file is empty.
-pub fn tapes_in<R: Files + AllocGlobal, I: Read>(
-    rt: &R,
-    paths: &[Option<&str>],
-    input: &mut I,
-) -> Result<Vec<Bytes>, Fault>
-    requires { length paths.now ≤ tape_count }
-    ensures { IfOk result (λ tapes. length tapes.items ≤ tape_count) }
-{
-    let mut tapes = Vec::new(rt.alloc());
-    for path in paths {
-        let tape = match path {
-            Some(path) => tape_in(rt, path, input)?,
-            None => Bytes::new(Vec::new(rt.alloc())),
-        };
-        tapes.push(tape)?;
-    }
-    Ok(tapes)
-}
 
 /// The programs of images, each with the terminal of its place.
 fn programs_in<R: Files + AllocGlobal>(rt: &R, paths: &[&str]) -> Result<Vec<Program>, Fault>
@@ -90,7 +32,7 @@ fn programs_in<R: Files + AllocGlobal>(rt: &R, paths: &[&str]) -> Result<Vec<Pro
 }
 
 /// What a run begins with: its core; the lock of its disk's file, if the disk is kept; and that file, of a durable run.
-pub type Setup = (Core, Option<DiskLock>, Option<HostFile>);
+pub type Booted = (Core, Option<DiskLock>, Option<HostFile>);
 
 /// Boots the core on the disk at a path. A durable run gets the disk's open file beside it. Else the last test is whether the disk
 /// can be kept, so that no long run is lost at its end.
@@ -142,7 +84,7 @@ fn setup_at<R: Files<File = File> + AllocGlobal>(
     is_durable: bool,
     programs: Vec<Program>,
     tapes: Vec<Bytes>,
-) -> Result<Setup, Fault>
+) -> Result<Booted, Fault>
     requires tapes { length tapes.items ≤ tape_count }
     requires some { 1 ≤ length programs.items }
     requires programs { length programs.items ≤ most_programs }
@@ -169,8 +111,8 @@ pub fn boot<R: Files<File = File> + AllocGlobal, I: Read>(
     rt: &R,
     options: &RunOptions<'_>,
     input: &mut I,
-) -> Result<Setup, Fault> {
-    let tapes = tapes_in(rt, options.tapes.as_slice(), input)?;
+) -> Result<Booted, Fault> {
+    let tapes = tapes_in(rt, options.tapes.as_slice(), &mut Input::new(input))?;
     let programs = programs_in(rt, options.images.as_slice())?;
     boot_on(rt, options, programs, tapes)
 }
@@ -181,7 +123,7 @@ pub fn boot_on<R: Files<File = File> + AllocGlobal>(
     options: &RunOptions<'_>,
     programs: Vec<Program>,
     tapes: Vec<Bytes>,
-) -> Result<Setup, Fault>
+) -> Result<Booted, Fault>
     requires tapes { length tapes.items ≤ tape_count }
     requires some { 1 ≤ length programs.items }
     requires programs { length programs.items ≤ most_programs }
@@ -197,36 +139,6 @@ pub fn boot_on<R: Files<File = File> + AllocGlobal>(
     }
 }
 
-/// The disk of a session: that of a file, or zeros.
-fn device_in<R: Files + AllocGlobal>(rt: &R, path: Option<&str>) -> Result<SimDisk, Fault>
-    ensures { IfOk result (λ device. is_quiet device ≡ true) }
-{
-    match path {
-        Some(path) => Ok(disk_or_zeros(rt, path)?),
-        None => Ok(zeros(rt.alloc())?),
-    }
-}
-
-/// The tapes of a session: the first one, from a file, or none.
-fn session_tapes<R: Files + AllocGlobal>(rt: &R, path: Option<&str>) -> Result<Vec<Bytes>, Fault>
-    ensures { IfOk result (λ tapes. length tapes.items ≤ tape_count) }
-{
-    let alloc = rt.alloc();
-    match path {
-        Some(path) => Ok(vec![in alloc; tape_at(rt, path)?]?),
-        None => Ok(Vec::new(alloc)),
-    }
-}
-
-/// Copies of the programs' images.
-fn images_of(alloc: Global, programs: &[Program]) -> Result<Vec<Image>, Fault> {
-    let mut images = Vec::new(alloc);
-    for program in programs {
-        images.push(program.image.try_clone(alloc)?)?;
-    }
-    Ok(images)
-}
-
 /// What came of a disk. A fault of the disk has the path of its file then, if there is one.
 pub fn of_disk<T: Drop>(
     alloc: Global,
@@ -237,19 +149,6 @@ pub fn of_disk<T: Drop>(
         (Err(fault), Some(path)) => Err(fault.of(alloc, Role::Disk, path)),
         (done, _) => done,
     }
-}
-
-/// Boots the core of a session with the debugger, and gives the images too. Reads all as `boot` does, and writes nothing.
-pub fn boot_live<R: Files + AllocGlobal>(
-    rt: &R,
-    options: &LiveOptions<'_>,
-) -> Result<(Core, Vec<Image>), Fault> {
-    let tapes = session_tapes(rt, options.tape)?;
-    let programs = programs_in(rt, options.images.as_slice())?;
-    let images = images_of(rt.alloc(), programs.as_slice())?;
-    let device = device_in(rt, options.disk)?;
-    let booted = Core::boot(rt.alloc(), device, programs, tapes).map_err(boot_fault);
-    Ok((of_disk(rt.alloc(), options.disk, booted)?, images))
 }
 
 /// Halts the core, and keeps the disk that it leaves, if it is to be kept.

@@ -1,6 +1,6 @@
 //! Scripts in files of the host, and the command `replay`. Each script is read whole before anything runs.
 //!
-//! Read `script_in` first. Only safety is proved.
+//! Read `replay_file` first. Only safety is proved.
 #![tactic(auto)]
 
 use faults::{Fault, Role};
@@ -10,7 +10,7 @@ use std::io::{self, Read, Write};
 use std::rt::Files;
 
 /// What came of the script in a file. A fault of the script has the file's path then.
-pub fn of_script<R: AllocGlobal, T: Drop>(
+fn of_script<R: AllocGlobal, T: Drop>(
     rt: &R,
     path: &str,
     done: Result<T, Fault>,
@@ -21,28 +21,10 @@ pub fn of_script<R: AllocGlobal, T: Drop>(
     }
 }
 
-/// What came of programs, or of a script alone, and of what is expected in a file. A fault of the script or of what is expected has the
-/// file's path then.
-pub fn of_files<R: AllocGlobal>(
-    rt: &R,
-    programs: &[&str],
-    expected: Option<&str>,
-    done: Result<u8, Fault>,
-) -> Result<u8, Fault> {
-    let done = match programs {
-        [path] => of_script(rt, path, done),
-        _ => done,
-    };
-    match (done, expected) {
-        (Err(fault), Some(path)) => Err(fault.of(rt.alloc(), Role::Expectations, path)),
-        (done, _) => done,
-    }
-}
-
 /// The script in a file.
-pub fn script_in<R: Files + AllocGlobal>(rt: &R, path: &str) -> Result<Script, Fault> {
+fn script_in<R: Files + AllocGlobal>(rt: &R, path: &str) -> Result<Script, Fault> {
     let text = text_in(rt, path)?;
-    of_script(rt, path, Script::parse(rt.alloc(), text.as_str()))
+    Script::of_file(rt.alloc(), path, text.as_str())
 }
 
 /// Replays the script on the input.

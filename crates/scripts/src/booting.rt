@@ -7,7 +7,7 @@ ghost use Rattle.kernel_model.specs.World.{terminal_count, tape_count};
 use crate::disk_with::disk_with;
 use crate::setup::{ScriptProgram, ScriptTape, Setup, Source, tape_numbered};
 use byte_list::Bytes;
-use faults::{Fault, Refusal, Sentence, Why};
+use faults::{Fault, Refusal};
 use files::FileList;
 use host_files::{image_bytes_in, image_of_bytes, image_of_file};
 use kernel::{BootFault, Core, Program, SimDisk};
@@ -97,14 +97,6 @@ pub fn boot_fault(fault: BootFault) -> Fault {
     }
 }
 
-/// Why a script that sets up no program, or more than may be, is refused.
-pub fn no_program() -> Fault {
-    Fault::new(
-        Refusal::Script { line: 1 },
-        Some(Why::Text(Sentence::NoProgram)),
-    )
-}
-
 impl Setup {
     /// Boots what a script sets up, on the disk that a crash left, or on one with the files that it sets up. A script that sets up no program is refused
     /// at line 1; one that was read sets up no more than eight.
@@ -118,7 +110,7 @@ impl Setup {
     {
         let programs = programs_of(rt, self.programs.as_mut_slice())?;
         if programs.is_empty() || programs.len() > MOST_PROGRAMS {
-            return Err(no_program());
+            return Err(Fault::from(Refusal::NoProgram));
         }
         let device = disk_of(rt.alloc(), left, &self.files)?;
         let tapes = tapes_of(rt.alloc(), self.tapes.as_slice())?;

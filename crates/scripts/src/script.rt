@@ -1,23 +1,13 @@
 //! A script, read whole: its set-up lines first, and then its steps.
 use crate::setup::{Setup, SetupLine};
-use crate::steps::{Step, is_step_name, step_of};
-use faults::{Fault, Refusal, Sentence, Why};
+use crate::steps::{Step, step_of};
+use faults::{Fault, Refusal};
+use host_files::{FileKind, kind_fault, kind_of};
 use std::alloc::{AllocError, Global};
 
 /// Whether a line adds nothing to a script: it is empty, or a comment.
 fn is_skipped(line: &str) -> bool {
     line.is_empty() || line.starts_with('#')
-}
-
-/// Whether a text is meant as a script: its first line that is not skipped begins with a word of scripts, or there is none.
-pub fn is_script(text: &str) -> bool {
-    match text.split('\n').find(|line| !is_skipped(line)) {
-        Some(line) => match line.split(' ').next() {
-            Some(word) => SetupLine::named(word).is_some() || is_step_name(word),
-            None => false,
-        },
-        None => true,
-    }
 }
 
 /// A script: what it sets up, and its steps in order.
@@ -35,10 +25,15 @@ impl Drop for Script {
     }
 }
 
-/// The fault of a line that has no form, or may not stand where it stands.
-fn line_fault(alloc: Global, line: usize, text: &str) -> Fault {
-    let why = Why::line(alloc, line, text, Sentence::NoFormThere);
-    Fault::new(Refusal::Script { line }, why)
+/// The fault of the script in a file: what else that is, if it is a source.
+fn fault_in(alloc: Global, path: &str, text: &str, fault: Fault) -> Fault {
+    let kind = kind_of(text.as_bytes());
+    match (kind, &fault) {
+        (FileKind::Source | FileKind::C, Fault::Refused { refusal, .. }) => {
+            kind_fault(alloc, *refusal, path, kind)
+        }
+        _ => fault.at(alloc, path),
+    }
 }
 
 impl Script {
@@ -80,7 +75,7 @@ impl Script {
         for text in text.split('\n') {
             line = line.saturating_add(1);
             if !self.read(alloc, text)? {
-                return Err(line_fault(alloc, line, text));
+                return Err(Fault::of_line(alloc, Refusal::Script { line }, text));
             }
         }
         Ok(())
@@ -90,15 +85,6 @@ impl Script {
     pub fn into_parts(self) -> (Setup, Vec<Step>) {
         let Script { setup, steps } = self;
         (setup, steps)
-    }
-
-    /// What it sets up, without its steps.
-    pub fn into_setup(self) -> Setup {
-        let Script {
-            setup,
-            steps: _steps,
-        } = self;
-        setup
     }
 
     /// Reads a script whole. Refused is the first line of these:
@@ -115,5 +101,16 @@ impl Script {
         };
         script.read_lines(alloc, text)?;
         Ok(script)
+    }
+
+    /// The script in the file at a path, which has this text.
+    pub fn of_file(alloc: Global, path: &str, text: &str) -> Result<Script, Fault> {
+        if text.is_empty() {
+            return Err(kind_fault(alloc, Refusal::NoProgram, path, FileKind::Empty));
+        }
+        match Script::parse(alloc, text) {
+            Ok(script) => Ok(script),
+            Err(fault) => Err(fault_in(alloc, path, text, fault)),
+        }
     }
 }

@@ -2,11 +2,11 @@
 ghost use Rattle.std.specs.Prelude.{◌≡◌, ◌<◌, ◌≤◌, true, length, vec_len};
 ghost use Rattle.kernel_model.specs.World.{tape_count};
 
-use crate::words::{Terminal, decimal, is_file_name, numbers_of, only_bytes_of, terminal_of};
+use crate::words::{Terminal, is_file_name, numbers_of, only_bytes_of, terminal_of};
 use byte_list::Bytes;
 use disk_model::{Change, LONGEST_FILE, MOST_FILES};
 use files::FileList;
-use input_reading::MOST_TAPE_BYTES;
+use input_reading::{MOST_TAPE_BYTES, decimal_word};
 use kernel_model::{MOST_PROGRAMS, TAPES};
 use std::alloc::{AllocError, Global};
 
@@ -207,14 +207,7 @@ impl Setup {
             .and_then(terminal_of)
     }
 
-    /// Adds the image in a file, for the terminal of its place. Whether there is room for it: it is not a ninth one.
-    pub fn push_image(&mut self, alloc: Global, path: &str) -> Result<bool, AllocError> {
-        let terminal = self.next_terminal();
-        let path = String::from_str(alloc, path)?;
-        self.push_program(terminal, Some(Source::Path(path)))
-    }
-
-    /// Adds the image whose file has these bytes, as `push_image` does.
+    /// Adds the image whose file has these bytes, for the terminal of its place. Whether there is room for it: it is not a ninth one.
     pub fn push_binary(&mut self, file: Vec<u8>) -> Result<bool, AllocError> {
         let terminal = self.next_terminal();
         self.push_program(terminal, Some(Source::File(file)))
@@ -271,7 +264,7 @@ impl Setup {
         let [first, rest @ ..] = words else {
             return Ok(false);
         };
-        let number = decimal(first);
+        let number = decimal_word(first);
         match line {
             SetupLine::Program => {
                 self.push_program(number.and_then(terminal_of), words_of(alloc, rest)?)

@@ -1,6 +1,7 @@
 //! The steps of a script: what its lines after the set-up lines do.
-use crate::words::{Terminal, decimal, only_bytes_of, terminal_of};
+use crate::words::{Terminal, only_bytes_of, terminal_of};
 use byte_list::Bytes;
+use input_reading::decimal_word;
 use kernel::Event;
 use std::alloc::{AllocError, Global};
 
@@ -60,10 +61,10 @@ fn numbered_action(name: &str, number: u32) -> Option<Action> {
 fn action_of(name: &str, words: &[&str]) -> Option<Action> {
     match words {
         [] => plain_action(name),
-        [number] => numbered_action(name, decimal(number)?),
+        [number] => numbered_action(name, decimal_word(number)?),
         [pid, n] if name == "turn" => Some(Action::Apply(Event::Turn {
-            pid: decimal(pid)?,
-            n: decimal(n)?,
+            pid: decimal_word(pid)?,
+            n: decimal_word(n)?,
         })),
         _ => None,
     }
@@ -75,23 +76,6 @@ pub fn step_of(alloc: Global, name: &str, words: &[&str]) -> Result<Option<Step>
         "crash" => Ok(only_bytes_of(alloc, words)?.map(Step::Crash)),
         _ => Ok(action_of(name, words).map(Step::Act)),
     }
-}
-
-/// Whether a line that begins with this word may be a step.
-pub fn is_step_name(name: &str) -> bool {
-    matches!(
-        name,
-        "turn"
-            | "enter"
-            | "cut"
-            | "complete"
-            | "fail"
-            | "drain"
-            | "shown"
-            | "trace"
-            | "files"
-            | "crash"
-    )
 }
 
 /// The process of an event; those of the disk have none.

@@ -15,11 +15,6 @@ pub struct Terminal {
     ghost there: { number < terminal_count },
 }
 
-/// A decimal number below 2^32. Leading zeros are allowed, a sign is not.
-pub fn decimal(word: &str) -> Option<u32> {
-    u32::try_from(input_reading::decimal(word)?).ok()
-}
-
 /// The terminal of this number, if there is one.
 pub fn terminal_of(number: u32) -> Option<Terminal> {
     if number < TERMINALS as u32 {

@@ -1,18 +1,20 @@
 //! The command `crashes`: crashes of a script, or of programs.
 use crate::crash_orders::{OrdersTested, recover_orders};
-use crate::crash_subject::{CrashSubject, program_in, subject_in};
+use crate::crash_subject::CrashSubject;
+use crate::exploring::{make_saved, of_expected};
 use command_line::{CrashOptions, ModelName, OrderBounds};
 use crash_lists::CrashModel;
 use crash_points::{Course, RunEnd};
 use crash_recoveries::{Subject, Tested, Trial, Verdict, save, try_recoveries};
 use crash_visits::{Rule, explore, explore_by};
-use exec_reports::{Family, print_ending, status_of_run};
+use exec_files::LoadedProgram;
+use exec_reports::{Family, print_ending, print_processes, status_of_run};
 use exec_runs::Ending;
 use faults::{Fault, write_line};
 use host_files::text_in;
 use kernel::Core;
 use recovery_runs::{Effort, Failure, Part, Recovery};
-use script_files::of_files;
+use run_files::{Input, of_subject, program_in, subject_in};
 use scripts::Setup;
 use std::fmt;
 use std::io::{Read, Write};
@@ -54,8 +56,13 @@ fn trial_of(options: &CrashOptions<'_>) -> Trial {
     }
 }
 
-/// Says that the run was cut, or a process of some order, and gives the exit status.
-fn tell_cut<E: Write>(options: &CrashOptions<'_>, err: &mut E) -> Result<u8, Fault> {
+/// Says that the run was cut, or a process of some order, and where each process of the run stands. Gives the exit status.
+fn tell_cut<E: Write>(
+    options: &CrashOptions<'_>,
+    family: &mut Family,
+    core: Option<&Core>,
+    err: &mut E,
+) -> Result<u8, Fault> {
     if let Some(OrderBounds { instructions, .. }) = options.orders {
         write_line(
             err,
@@ -70,6 +77,10 @@ fn tell_cut<E: Write>(options: &CrashOptions<'_>, err: &mut E) -> Result<u8, Fau
         err,
         format_args!("bench: not all tried: the run was cut at the limit of {limit} instructions"),
     )?;
+    if let Some(core) = core {
+        family.forget_executed(core);
+        print_processes(core, family, err)?;
+    }
     Ok(NOT_ALL)
 }
 
@@ -162,7 +173,9 @@ fn explore_in<R: Files + AllocGlobal + Threads + Sync, O: Write, E: Write>(
     out.flush()?;
     match ending {
         Ending::Over => tell_programs(subject, core.as_ref(), err),
-        Ending::Limit { .. } | Ending::Full { .. } => tell_cut(options, err),
+        Ending::Limit { .. } | Ending::Full { .. } => {
+            tell_cut(options, &mut subject.family, core.as_ref(), err)
+        }
     }
 }
 
@@ -187,7 +200,7 @@ fn end_failed<R: Files + AllocGlobal, E: Write>(
 /// What came of the recoveries, and what the exit status is where none failed and all was tried.
 #[derive(Drop)]
 struct Judged {
-    verdict: Verdict,
+    tested: Tested,
     status: u8,
 }
 
@@ -206,14 +219,13 @@ fn judge_orders<R: Files + AllocGlobal + Threads + Sync, O: Write, E: Write>(
         rt, setup, recovery, bounds, trial, out, err,
     )?;
     out.flush()?;
-    let Tested { verdict, core } = tested;
-    let status = match (&verdict, &core) {
+    let status = match (&tested.verdict, &tested.core) {
         (Verdict::Kept, Some(core)) => {
             tell_run(&mut subject.family, core, Some(calls.as_slice()), err)?
         }
         _ => 0,
     };
-    Ok(Judged { verdict, status })
+    Ok(Judged { tested, status })
 }
 
 /// Has the recovery run on what crashes of the run leave. Says how it ended, if its programs did not end well.
@@ -229,13 +241,13 @@ fn judge_run<R: Files + AllocGlobal + Threads + Sync, O: Write, E: Write>(
         setup: &mut subject.setup,
         course: &subject.course,
     };
-    let Tested { verdict, core } = try_recoveries(rt, run, recovery, trial, out, err)?;
+    let tested = try_recoveries(rt, run, recovery, trial, out, err)?;
     out.flush()?;
-    let status = match &verdict {
-        Verdict::Kept => tell_programs(subject, core.as_ref(), err)?,
+    let status = match &tested.verdict {
+        Verdict::Kept => tell_programs(subject, tested.core.as_ref(), err)?,
         _ => 0,
     };
-    Ok(Judged { verdict, status })
+    Ok(Judged { tested, status })
 }
 
 /// Has the recovery run on what crashes leave: those of all orders, or of the run.
@@ -258,21 +270,21 @@ fn test_recovery<R: Files + AllocGlobal + Threads + Sync, O: Write, E: Write>(
 fn recover_in<R: Files + AllocGlobal + Threads + Sync, O: Write, E: Write>(
     rt: &R,
     options: &CrashOptions<'_>,
-    path: &str,
+    program: LoadedProgram,
     subject: &mut CrashSubject,
     out: &mut O,
     err: &mut E,
 ) -> Result<u8, Fault> {
-    let program = program_in(rt, path)?;
     let mut recovery = Recovery::new(rt.alloc(), program, options.limit, options.nested)?;
-    let Judged { verdict, status } = test_recovery(rt, options, subject, &recovery, out, err)?;
+    let Judged { tested, status } = test_recovery(rt, options, subject, &recovery, out, err)?;
+    let Tested { verdict, core } = tested;
     match verdict {
         Verdict::Kept => Ok(status),
         Verdict::Failed(failure, played) => {
             let (setup, failed) = (&subject.setup, (failure, played));
             end_failed(rt, options, setup, &mut recovery, failed, err)
         }
-        Verdict::Cut => tell_cut(options, err),
+        Verdict::Cut => tell_cut(options, &mut subject.family, core.as_ref(), err),
         Verdict::TooLong => {
             write_line(
                 err,
@@ -281,6 +293,25 @@ fn recover_in<R: Files + AllocGlobal + Threads + Sync, O: Write, E: Write>(
             Ok(NOT_ALL)
         }
     }
+}
+
+/// Tries the crashes of what was read. The recovery is read first, if there is one, and then what is to be saved has its folder.
+fn try_in<R: Files + AllocGlobal + Threads + Sync, I: Read, O: Write, E: Write>(
+    rt: &R,
+    options: &CrashOptions<'_>,
+    input: &mut I,
+    out: &mut O,
+    err: &mut E,
+) -> Result<u8, Fault> {
+    let mut input = Input::new(input);
+    let subject = subject_in(rt, &options.programs, &mut input)?;
+    let mut subject = CrashSubject::new(rt.alloc(), subject, options.limit)?;
+    let Some(path) = options.recover else {
+        return explore_in(rt, options, &mut subject, out, err);
+    };
+    let program = program_in(rt, path, &mut input)?;
+    make_saved(rt, options.save)?;
+    recover_in(rt, options, program, &mut subject, out, err)
 }
 
 /// Tries the crashes of a script, or of programs. All files are read first: the script or the programs and their tapes, and then what is
@@ -293,10 +324,11 @@ pub fn try_crashes<R: Files + AllocGlobal + Threads + Sync, I: Read, O: Write, E
     out: &mut O,
     err: &mut E,
 ) -> Result<u8, Fault> {
-    let mut subject = subject_in(rt, options, input)?;
-    let done = match options.recover {
-        Some(path) => recover_in(rt, options, path, &mut subject, out, err),
-        None => explore_in(rt, options, &mut subject, out, err),
-    };
-    of_files(rt, options.programs.as_slice(), options.expect, done)
+    let alloc = rt.alloc();
+    let done = try_in(rt, options, input, out, err);
+    of_expected(
+        alloc,
+        options.expect,
+        of_subject(alloc, &options.programs, done),
+    )
 }

@@ -1,51 +1,16 @@
 //! All orders of the calls of programs in files of the host.
-use command_line::{ExploreOptions, OrderBounds};
-use explored_runs::{Limits, Wanted, explore_orders};
-use faults::{Fault, at_path, write_line};
-use host_files::{text_in, text_of_file};
-use order_outcomes::{MergeFault, merge_parts};
-use script_files::{of_files, of_script};
-use scripts::{Script, Setup};
+use command_line::{ExploreOptions, Explored, OrderBounds, ProgramOptions};
+use exec_reports::{Family, print_processes};
+use explored_runs::{Limits, Wanted, end_of_calls, explore_orders};
+use faults::{ExplorationFault, Fault, Refusal, Role};
+use host_files::text_in;
+use order_outcomes::merge_parts;
+use run_files::{Input, Subject, make_folder, of_subject, subject_in};
 use state_search::Part;
-use std::alloc::{AllocError, Global};
-use std::fs;
-use std::io::Write;
+use std::alloc::Global;
+use std::io::{Read, Write};
 use std::rt::Files;
 use std::thread::Threads;
-
-/// The status where a part is refused, or missing.
-const REFUSED: u8 = 2;
-
-/// What images set up.
-fn images_setup(alloc: Global, paths: &[&str]) -> Result<Setup, AllocError> {
-    let mut setup = Setup::new(alloc);
-    for path in paths {
-        setup.push_image(alloc, path)?;
-    }
-    Ok(setup)
-}
-
-/// What a file sets up that is read whole: an image, which begins as ELF files do, or a script.
-fn file_setup<R: Files + AllocGlobal>(rt: &R, path: &str) -> Result<Setup, Fault> {
-    let alloc = rt.alloc();
-    let bytes = at_path(alloc, path, fs::read(rt, path))?;
-    if bytes.as_slice().starts_with(b"\x7fELF") {
-        let mut setup = Setup::new(alloc);
-        setup.push_binary(bytes)?;
-        return Ok(setup);
-    }
-    let text = text_of_file(alloc, path, bytes.as_slice())?;
-    let script = of_script(rt, path, Script::parse(alloc, text))?;
-    Ok(script.into_setup())
-}
-
-/// What programs set up: images, or a script alone.
-fn setup_of<R: Files + AllocGlobal>(rt: &R, paths: &[&str]) -> Result<Setup, Fault> {
-    match paths {
-        [path] => file_setup(rt, path),
-        _ => Ok(images_setup(rt.alloc(), paths)?),
-    }
-}
 
 /// The outcomes that are expected, if any are.
 fn expected_in<R: Files + AllocGlobal>(
@@ -80,67 +45,116 @@ fn limits_in(options: &ExploreOptions<'_>) -> Limits {
     limits
 }
 
-/// Finds all outcomes of programs, or explores a part, and gives the exit status. A file that may be a script is read first, and then what
-/// is expected, if anything is.
-fn explore_in<R: Files + AllocGlobal + Threads + Sync, O: Write, E: Write>(
+/// Makes the folder into which files are to be written, if one is given.
+pub fn make_saved<R: Files + AllocGlobal>(rt: &R, folder: Option<&str>) -> Result<(), Fault> {
+    match folder {
+        Some(folder) => make_folder(rt, folder),
+        None => Ok(()),
+    }
+}
+
+/// Says where each process stands at the end to which these calls lead.
+fn tell_processes<R: Files + AllocGlobal, E: Write>(
+    rt: &R,
+    subject: Subject,
+    instructions: u32,
+    calls: &[u32],
+    err: &mut E,
+) -> Result<(), Fault> {
+    let Subject {
+        mut setup,
+        steps: _steps,
+        programs,
+    } = subject;
+    let core = end_of_calls(rt, &mut setup, instructions, calls)?;
+    let mut family = Family::new(rt.alloc(), programs, setup.programs.len())?;
+    family.forget_executed(&core);
+    print_processes(&core, &family, err)
+}
+
+/// Whether a search was cut since a process runs on.
+fn runs_on(fault: &Fault) -> bool {
+    matches!(
+        fault,
+        Fault::Refused {
+            refusal: Refusal::Exploration(ExplorationFault::RunsOn { .. }),
+            ..
+        }
+    )
+}
+
+/// Finds all outcomes of programs, or explores a part, and gives the exit status. The programs or the script are read first, and then what
+/// is expected, if anything is. If a process runs on, lines say where each stands.
+fn explore_in<R: Files + AllocGlobal + Threads + Sync, I: Read, O: Write, E: Write>(
     rt: &R,
     options: &ExploreOptions<'_>,
+    programs: &ProgramOptions<'_>,
+    input: &mut I,
     out: &mut O,
     err: &mut E,
 ) -> Result<u8, Fault> {
-    let mut setup = setup_of(rt, options.programs.as_slice())?;
+    let mut subject = subject_in(rt, programs, &mut Input::new(input))?;
     let expected = expected_in(rt, options)?;
+    make_saved(rt, options.save)?;
     let wanted = Wanted {
         expected: expected.as_ref().map(|text| text.as_str()),
         folder: options.save,
         progress: options.progress,
     };
-    explore_orders(rt, &mut setup, limits_in(options), wanted, out, err)?;
+    let limits = limits_in(options);
+    let mut calls = None;
+    let done = explore_orders(rt, &mut subject.setup, limits, wanted, &mut calls, out, err);
+    if let (Err(fault), Some(calls)) = (&done, &calls)
+        && runs_on(fault)
+    {
+        out.flush()?;
+        tell_processes(rt, subject, limits.instructions, calls.as_slice(), err)?;
+    }
+    done?;
     Ok(0)
 }
 
-/// Says which part is refused, or missing.
-fn tell_part<E: Write>(paths: &[&str], fault: MergeFault, err: &mut E) -> Result<u8, Fault> {
-    match fault {
-        MergeFault::File { place, why } => {
-            let path = paths.get(place).unwrap_or(&"");
-            write_line(err, format_args!("bench: part refused: {path} {why}"))?;
-        }
-        MergeFault::Missing { number, of } => write_line(
-            err,
-            format_args!("bench: part refused: {number}/{of} is missing"),
-        )?,
-        MergeFault::Other(fault) => return Err(fault),
-    }
-    Ok(REFUSED)
-}
-
 /// Puts the files of parts together. What is expected is read first, if anything is.
-fn merge_in<R: Files + AllocGlobal, O: Write, E: Write>(
+fn merge_in<R: Files + AllocGlobal, O: Write>(
     rt: &R,
     options: &ExploreOptions<'_>,
+    paths: &[&str],
     out: &mut O,
-    err: &mut E,
 ) -> Result<u8, Fault> {
-    let paths = options.programs.as_slice();
     let expected = expected_in(rt, options)?;
-    match merge_parts(rt, paths, expected.as_ref().map(|text| text.as_str()), out) {
-        Ok(()) => Ok(0),
-        Err(fault) => tell_part(paths, fault, err),
+    let expected = expected.as_ref().map(|text| text.as_str());
+    merge_parts(rt, paths, expected, out)?;
+    Ok(0)
+}
+
+/// What came of a search for which something is expected in a file. A fault of what is expected has the file's path then.
+pub fn of_expected(
+    alloc: Global,
+    path: Option<&str>,
+    done: Result<u8, Fault>,
+) -> Result<u8, Fault> {
+    match (done, path) {
+        (Err(fault), Some(path)) => Err(fault.of(alloc, Role::Expectations, path)),
+        (done, _) => done,
     }
 }
 
 /// Finds all outcomes of programs, or of the parts of a search. Gives the exit status. A line says which part is refused.
-pub fn explore_programs<R: Files + AllocGlobal + Threads + Sync, O: Write, E: Write>(
+pub fn explore_programs<R: Files + AllocGlobal + Threads + Sync, I: Read, O: Write, E: Write>(
     rt: &R,
     options: &ExploreOptions<'_>,
+    input: &mut I,
     out: &mut O,
     err: &mut E,
 ) -> Result<u8, Fault> {
-    let done = if options.merge {
-        merge_in(rt, options, out, err)
-    } else {
-        explore_in(rt, options, out, err)
+    let alloc = rt.alloc();
+    let done = match &options.explored {
+        Explored::Programs(programs) => of_subject(
+            alloc,
+            programs,
+            explore_in(rt, options, programs, input, out, err),
+        ),
+        Explored::Parts(paths) => merge_in(rt, options, paths.as_slice(), out),
     };
-    of_files(rt, options.programs.as_slice(), options.expect, done)
+    of_expected(alloc, options.expect, done)
 }

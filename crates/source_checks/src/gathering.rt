@@ -4,8 +4,8 @@ ghost use Rattle.std.specs.List.{Contains};
 ghost use Rattle.std.specs.List.Sorted.{IsNonDecreasingBy};
 ghost use Rattle.source_checks.specs.Checks.{place_among};
 
-use crate::labels::Labels;
 use crate::line_faults::line_faults;
+use crate::place::without_indent;
 use crate::saying::is_c;
 use assembler::{AsmFault, Cause};
 use std::alloc::{AllocError, Global};
@@ -20,15 +20,9 @@ fn place_among(fault: AsmFault) -> usize
     }
 }
 
-/// Whether a line may mean the label `_start`.
+/// Whether a line has the label `_start`, or may mean it.
 fn begins_start(line: &str) -> bool {
-    line.trim_start().starts_with("_start")
-}
-
-/// Whether no line has the label `_start`, and none may mean it.
-fn lacks_start(alloc: Global, source: &str) -> Result<bool, AllocError> {
-    let labels = Labels::of(alloc, source)?;
-    Ok(!labels.has("_start") && !source.lines().any(begins_start))
+    without_indent(line).starts_with("_start")
 }
 
 /// The faults of a source, in no order. Of a source that is too large, or of C, nothing is said beside its first one.
@@ -37,7 +31,7 @@ fn others(alloc: Global, source: &str, first: AsmFault) -> Result<Vec<AsmFault>,
         return Ok(Vec::new(alloc));
     }
     let mut found = line_faults(alloc, source)?;
-    if lacks_start(alloc, source)? {
+    if !source.lines().any(begins_start) {
         found.push(AsmFault::whole(Cause::NoStart))?;
     }
     Ok(found)

@@ -10,31 +10,24 @@ fn distance(alloc: Global, word: &str, name: &str) -> Result<usize, AllocError> 
     Ok(letters.saturating_mul(2).saturating_add(other_length))
 }
 
-/// The first of those names that are nearest to a word, and how far it is.
-fn nearest_of<'a>(
-    alloc: Global,
-    word: &str,
-    names: &[&'a str],
-) -> Result<Option<(usize, &'a str)>, AllocError> {
-    let mut best: Option<(usize, &'a str)> = None;
-    for name in names {
-        let far = distance(alloc, word, name)?;
-        best = match best {
-            Some((least, before)) if least <= far => Some((least, before)),
-            _ => Some((far, *name)),
-        };
-    }
-    Ok(best)
-}
-
-/// The nearest of some names, where it is at most a third of the word off, or one letter.
+/// The first of the nearest names, if it is at most a third of the word off, or one letter.
 pub fn near<'a>(
     alloc: Global,
     word: &str,
     names: &[&'a str],
 ) -> Result<Option<&'a str>, AllocError> {
-    match nearest_of(alloc, word, names)? {
-        Some((far, name)) if far / 2 <= (word.len() / 3).max(1) => Ok(Some(name)),
-        _ => Ok(None),
+    let mut nearest = None;
+    let mut least = usize::MAX;
+    for name in names {
+        let far = distance(alloc, word, name)?;
+        if far < least {
+            least = far;
+            nearest = Some(*name);
+        }
+    }
+    if least / 2 <= (word.len() / 3).max(1) {
+        Ok(nearest)
+    } else {
+        Ok(None)
     }
 }

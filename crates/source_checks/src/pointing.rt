@@ -13,7 +13,8 @@ const CUT: &str = "..";
 
 /// Whether a character would not show, or would turn the text after it round.
 fn is_hidden(c: char) -> bool {
-    c.is_control() || matches!(c, '\u{202a}'..='\u{202e}' | '\u{2066}'..='\u{2069}')
+    c.is_control()
+        || matches!(c, '\u{200b}'..='\u{200f}' | '\u{202a}'..='\u{202e}' | '\u{2066}'..='\u{2069}' | '\u{feff}')
 }
 
 /// Adds a character as it is shown. One that would not show is written with a backslash.

@@ -1,134 +1,173 @@
 //! What is printed of a checked source.
 use crate::checking::Checked;
 use crate::gathering::faults;
-use crate::place::text_of_line;
+use crate::place::{label_of, place_in};
 use crate::pointing::point;
-use crate::saying::advice;
-use crate::telling::{Told, tell};
+use crate::rewriting::rewritten;
+use crate::saying::named_advice;
+use crate::source::Source;
+use crate::telling::tell;
 use crate::warnings::Warning;
 use assembler::{AsmFault, Cause};
 use std::alloc::{AllocError, Global};
 use std::io::{self, Write};
 
-/// Whether a fault stands at a place of its own, and not at 1:1 for the whole source.
-fn has_place(fault: AsmFault) -> bool {
-    !matches!(
-        fault.why,
-        Cause::NoStart | Cause::TooLarge | Cause::OutOfMemory
-    )
-}
-
-fn out_of_memory(_error: AllocError) -> io::Error {
-    io::Error::from(io::ErrorKind::OutOfMemory)
-}
-
-/// Prints the line of a fault, and a caret under its place.
-fn print_place<O: Write>(
+/// Adds a line with its number, and a caret under a place in it.
+fn push_line(
     alloc: Global,
-    source: &str,
+    text: &mut String,
+    line: &str,
+    number: usize,
+    column: usize,
+) -> Result<(), AllocError> {
+    let pointed = point(alloc, line, column)?;
+    let (shown, below) = (pointed.line.as_str(), pointed.below.as_str());
+    writeln!(text, "{number:>5} | {shown}\n      | {below}^")
+}
+
+/// Adds the line of a fault of syntax as it is written here, if that is known.
+fn push_rewritten(
+    alloc: Global,
+    text: &mut String,
+    line: &str,
     fault: AsmFault,
-    out: &mut O,
-) -> io::Result<()> {
-    let line = text_of_line(source, fault.line);
-    let pointed = point(alloc, line, fault.column).map_err(out_of_memory)?;
-    let number = fault.line;
-    let text = pointed.line.as_str();
-    let below = pointed.below.as_str();
-    writeln!(out, "{number:>5} | {text}")?;
-    writeln!(out, "      | {below}^")
-}
-
-/// Prints what is said of a fault: its line with a caret, where it has a place, and its advice.
-fn print_fault<O: Write>(
-    alloc: Global,
-    source: &str,
-    fault: AsmFault,
-    out: &mut O,
-) -> io::Result<()> {
-    if has_place(fault) {
-        print_place(alloc, source, fault, out)?;
+) -> Result<(), AllocError> {
+    if fault.why != Cause::Syntax {
+        return Ok(());
     }
-    let said = advice(alloc, source, fault).map_err(out_of_memory)?;
-    let said = said.as_str();
-    writeln!(out, "{said}")
-}
-
-/// Prints a fault that is told, whether it is the one that the assembler tells among others, and which other lines have the same.
-fn print_told<O: Write>(
-    alloc: Global,
-    source: &str,
-    told: &Told,
-    is_marked: bool,
-    out: &mut O,
-) -> io::Result<()> {
-    print_fault(alloc, source, told.fault, out)?;
-    if is_marked {
-        out.write_all(b"this is the fault that bench asm tells\n")?;
-    }
-    match told.other_lines(alloc).map_err(out_of_memory)? {
-        Some(text) => {
-            let text = text.as_str();
-            writeln!(out, "{text}")
+    match rewritten(alloc, &place_in(line, fault.column))? {
+        Some(line) => {
+            let pointed = point(alloc, line.as_str(), 1)?;
+            let shown = pointed.line.as_str();
+            writeln!(text, "write | {shown}")
         }
         None => Ok(()),
     }
 }
 
-/// Prints the faults of a source, of which the assembler tells this one.
-fn print_faults<O: Write>(
+/// The line of a fault in the form that editors read: its place in the file of a path, and its advice.
+fn fault_line(
     alloc: Global,
+    path: &str,
+    source: &Source<'_>,
+    fault: AsmFault,
+) -> Result<String, AllocError> {
+    let (line, column) = (fault.line, fault.column);
+    let said = named_advice(alloc, source, fault)?;
+    let said = said.as_str();
+    format!(in alloc; "{path}:{line}:{column}: error: {said}")
+}
+
+/// The line of a fault, as [`print_checked`] begins what it prints of it.
+pub fn located_advice(
+    alloc: Global,
+    path: &str,
     source: &str,
+    fault: AsmFault,
+) -> Result<String, AllocError> {
+    fault_line(alloc, path, &Source::of(alloc, source)?, fault)
+}
+
+/// Adds what is said of a fault: one line, and if it has a place of its own its line with a caret.
+fn push_fault(
+    alloc: Global,
+    text: &mut String,
+    path: &str,
+    source: &Source<'_>,
+    fault: AsmFault,
+) -> Result<(), AllocError> {
+    let said = fault_line(alloc, path, source, fault)?;
+    let said = said.as_str();
+    writeln!(text, "{said}")?;
+    match fault.why {
+        Cause::NoStart | Cause::TooLarge | Cause::OutOfMemory => Ok(()),
+        _ => {
+            let line = source.line(fault.line);
+            push_line(alloc, text, line, fault.line, fault.column)?;
+            push_rewritten(alloc, text, line, fault)
+        }
+    }
+}
+
+/// Adds the faults of a source, of which the assembler tells this one. It is marked among others.
+fn push_faults(
+    alloc: Global,
+    text: &mut String,
+    path: &str,
+    source: &Source<'_>,
     first: AsmFault,
-    out: &mut O,
-) -> io::Result<()> {
-    let faults = faults(alloc, source, first).map_err(out_of_memory)?;
-    let telling = tell(alloc, source, faults.as_slice(), first).map_err(out_of_memory)?;
-    let has_others = telling.told.len() > 1;
+) -> Result<(), AllocError> {
+    let faults = faults(alloc, source.text, first)?;
+    let telling = tell(alloc, source, faults.as_slice(), first)?;
     for told in &telling.told {
-        let is_marked = has_others && told.fault == first;
-        print_told(alloc, source, told, is_marked, out)?;
+        push_fault(alloc, text, path, source, told.fault)?;
+        if telling.told.len() > 1 && told.fault == first {
+            text.push_str("this is the fault that bench asm tells\n")?;
+        }
+        told.push_lines(text)?;
     }
     let more = telling.more;
     if more > 0 {
-        writeln!(out, "and {more} more")?;
+        writeln!(text, "and {more} more")?;
     }
     Ok(())
 }
 
-/// Prints the line of a warning, and what it says.
-fn print_warning<O: Write>(
+/// Adds the warnings about a source, each with the line of its statement.
+fn push_warnings(
     alloc: Global,
-    source: &str,
-    warning: &Warning,
-    out: &mut O,
-) -> io::Result<()> {
-    let line = source.get(warning.start..warning.end).unwrap_or("");
-    let pointed = point(alloc, line, 1).map_err(out_of_memory)?;
-    let number = warning.line;
-    let text = pointed.line.as_str();
-    let doubt = warning.doubt;
-    writeln!(out, "{number:>5} | {text}")?;
-    writeln!(out, "warning: {doubt}")
+    text: &mut String,
+    path: &str,
+    source: &Source<'_>,
+    warnings: &[Warning],
+) -> Result<(), AllocError> {
+    if warnings.is_empty() {
+        text.push_str("no fault found\n")?;
+    }
+    for warning in warnings {
+        let (number, doubt) = (warning.line, warning.doubt);
+        let line = source.line(number);
+        let (_, statement) = label_of(line);
+        let column = line.len().saturating_sub(statement.len()).saturating_add(1);
+        writeln!(text, "{path}:{number}:{column}: warning: {doubt}")?;
+        push_line(alloc, text, line, number, column)?;
+    }
+    Ok(())
 }
 
-/// Prints what a check found. Of each fault that is its line, a caret under its place, and one line about it; where there are several,
-/// the one that the assembler tells is marked. Of each warning it is its line and what it says. Without any it is `no fault found`.
+fn report(
+    alloc: Global,
+    path: &str,
+    source: &str,
+    checked: &Checked,
+) -> Result<String, AllocError> {
+    let mut text = String::new(alloc);
+    let source = Source::of(alloc, source)?;
+    match checked {
+        Checked::Refused(first) => push_faults(alloc, &mut text, path, &source, *first)?,
+        Checked::Passed { warnings, .. } => push_warnings(
+            alloc,
+            &mut text,
+            path,
+            &source,
+            warnings.as_slice(),
+        )?,
+    }
+    Ok(text)
+}
+
+/// Prints what a check found in the source at a path. Each fault and each warning begins with a line that editors read,
+/// `path:line:column: error: ..` or `.. warning: ..`, and a caret under its place follows. If there are several faults, the one that the
+/// assembler tells is marked. Without any it prints `no fault found`.
 pub fn print_checked<O: Write>(
     alloc: Global,
+    path: &str,
     source: &str,
     checked: &Checked,
     out: &mut O,
 ) -> io::Result<()> {
-    match checked {
-        Checked::Refused(first) => print_faults(alloc, source, *first, out),
-        Checked::Passed { warnings, .. } if warnings.is_empty() => out.write_all(
-            b"no fault found\n",
-        ),
-        Checked::Passed { warnings, .. } => {
-            for warning in warnings {
-                print_warning(alloc, source, warning, out)?;
-            }
-            Ok(())
-        }
+    match report(alloc, path, source, checked) {
+        Ok(text) => out.write_all(text.as_str().as_bytes()),
+        Err(_) => Err(io::Error::from(io::ErrorKind::OutOfMemory)),
     }
 }

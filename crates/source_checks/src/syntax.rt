@@ -1,12 +1,14 @@
 //! What is said of a line that has no form.
-use crate::foreign::instead_of;
-use crate::forms::{DIRECTIVES, Form, INSTRUCTIONS};
-use crate::labels::Labels;
+use crate::foreign::cure_of;
+use crate::forms::{is_known, names, written};
 use crate::nearest::near;
-use crate::pieces::{Piece, form_at, missing_at, wanted_at};
-use crate::place::{Place, begins_word};
+use crate::place::{BYTE_ORDER_MARK, Place, begins_word, first_of};
 use crate::pointing::push_char;
 use crate::registers::{REGISTERS, is_register};
+use crate::rewriting::quoted_number;
+use crate::source::Source;
+use crate::statements::tokens_of;
+use crate::wanted::{form_at, wanted_after};
 use std::alloc::{AllocError, Global};
 
 /// What a number is.
@@ -27,35 +29,25 @@ const LABEL_ALONE: &str = "la takes a label alone; addi adds a number to the reg
 /// What is said of a computation.
 const COMPUTED: &str = "nothing is computed here: write the number itself";
 
+/// What is said of a number that is repeated, as in `.word 0:10`.
+const REPEATED: &str =
+    "no number is repeated by a colon: .space makes zeros, and all others are written out";
+
+/// What is said of an operand of `.text` and `.data`.
+const SECTIONS: &str = "no operand follows it: text begins at 00010000, and data on the next page";
+
+/// What is said of files that some editors write.
+const CR_LF: &str =
+    "lines have to end with LF (this one ends with CR LF): tr -d '\\r' <OLD >NEW, or the editor's setting";
+
+const CR: &str =
+    "lines have to end with LF (this one ends with CR): tr '\\r' '\\n' <OLD >NEW, or the editor's setting";
+
+const MARKED: &str =
+    "the file begins with a byte order mark (ef bb bf): tail -c +4 OLD >NEW, or the editor's setting";
+
 /// The most bytes that a word has.
 const LONGEST_WORD: usize = 64;
-
-fn is_hexadecimal(digits: &str) -> bool {
-    let significant = digits.trim_start_matches('0');
-    !digits.is_empty()
-        && significant.len() <= 8
-        && digits.bytes().all(|byte| byte.is_ascii_hexdigit())
-}
-
-/// The digits of a decimal number, and the greatest that it may be.
-fn is_decimal(digits: &str, most: u64) -> bool {
-    match digits.parse::<u64>() {
-        Ok(number) => !digits.starts_with('+') && number <= most,
-        Err(_) => false,
-    }
-}
-
-/// Whether a word that begins as a number is one that there is.
-fn is_number(word: &str) -> bool {
-    let (digits, most) = match word.strip_prefix('-') {
-        Some(digits) => (digits, 2_147_483_648),
-        None => (word, 4_294_967_295),
-    };
-    match digits.strip_prefix("0x") {
-        Some(digits) => is_hexadecimal(digits),
-        None => is_decimal(digits, most),
-    }
-}
 
 fn begins_number(word: &str) -> bool {
     word.starts_with(|c: char| c.is_ascii_digit() || c == '-')
@@ -69,44 +61,46 @@ fn is_numbered_label(word: &str) -> bool {
     }
 }
 
-/// The number of the character that stands in single quotes, if one does.
-fn quoted_number(rest: &str) -> Option<(&str, u32)> {
-    let inside = rest.strip_prefix('\'')?;
-    let (escaped, c) = match inside.strip_prefix('\\') {
-        Some(after) => (true, after.chars().next()?),
-        None => (false, inside.chars().next()?),
-    };
-    let number = match (escaped, c) {
-        (true, 'n') => 10,
-        (true, 't') => 9,
-        (true, '0') => 0,
-        (_, c) => u32::from(c),
-    };
-    let len = c.len_utf8().saturating_add(if escaped { 3 } else { 2 });
-    Some((rest.get(..len)?, number))
+/// What is said of a line's end that is another one, and of the mark at a file's start.
+fn file_advice(place: &Place<'_>) -> Option<&'static str> {
+    match place.rest.chars().next()? {
+        BYTE_ORDER_MARK => Some(MARKED),
+        '\r' if place.rest.len() == 1 => Some(CR_LF),
+        '\r' => Some(CR),
+        _ => None,
+    }
 }
 
 /// What is said of what begins no word, number, string or mark at all; None where something begins.
 fn shape_advice(alloc: Global, place: &Place<'_>) -> Result<Option<String>, AllocError> {
     let found = place.found;
-    let said = match found.chars().next() {
-        Some('\r') => "the lines end with CR and LF; let them end with LF alone",
-        Some('\'') => return Ok(Some(character_advice(alloc, place.rest)?)),
-        Some('%') =>
-            "%hi and %lo are not there; la rd,label puts the address of a label into a register",
-        Some('/' | ';') => "a comment begins with #, and each statement has a line of its own",
-        Some('*' | '=' | '<' | '>' | '&' | '|' | '^' | '~' | '!') => COMPUTED,
-        Some('+') if place.name == "la" => LABEL_ALONE,
-        Some('+') => SUMS,
-        Some('$') => "a register is written without $, as a0",
-        Some('"') if place.name == ".ascii" => STRINGS,
-        Some(c) if !c.is_ascii() => "outside comments all is ASCII",
-        Some(_) if is_numbered_label(found) => {
-            return Ok(Some(numbered_advice(alloc, found)?));
+    let Some(c) = found.chars().next() else {
+        return Ok(None);
+    };
+    let is_no_number = begins_number(found) && tokens_of(alloc, found)?.is_err();
+    let said = match c {
+        '\'' => return Ok(Some(character_advice(alloc, place.rest)?)),
+        '%' => "%hi and %lo are not there; la rd,label puts the address of a label into a register",
+        '/' | ';' => "a comment begins with #, and each statement has a line of its own",
+        '*' | '=' | '<' | '>' | '&' | '|' | '^' | '~' | '!' => COMPUTED,
+        '+' if place.name == "la" => LABEL_ALONE,
+        '+' => SUMS,
+        '$' => "a register is written without $, as a0",
+        '"' if place.name == ".ascii" => STRINGS,
+        c if !c.is_ascii() => "outside comments all is ASCII",
+        _ if is_numbered_label(found) => {
+            return Ok(Some(format!(in alloc;
+                "{found} goes to a label that is a number; labels are names, as in again: and j again"
+            )?));
         }
-        Some(_) if begins_number(found) && !is_number(found) => NUMBERS,
-        Some(_) if found.len() > LONGEST_WORD => "a word has at most 64 letters",
-        Some(c) if is_stray(c) => return Ok(Some(stray_advice(alloc, c)?)),
+        _ if is_no_number => NUMBERS,
+        _ if found.len() > LONGEST_WORD => "a word has at most 64 letters",
+        c if is_stray(c) => {
+            let mut text = String::new(alloc);
+            push_char(&mut text, c)?;
+            text.push_str(" stands nowhere in a source, outside comments")?;
+            return Ok(Some(text));
+        }
         _ => return Ok(None),
     };
     Ok(Some(String::from_str(alloc, said)?))
@@ -117,228 +111,150 @@ fn is_stray(c: char) -> bool {
     !c.is_ascii_alphanumeric() && !matches!(c, '_' | '.' | '-' | '"' | ',' | ':' | '(' | ')' | '#')
 }
 
-fn stray_advice(alloc: Global, c: char) -> Result<String, AllocError> {
-    let mut text = String::new(alloc);
-    push_char(&mut text, c)?;
-    text.push_str(" stands nowhere in a source, outside comments")?;
-    Ok(text)
-}
-
-fn numbered_advice(alloc: Global, found: &str) -> Result<String, AllocError> {
-    format!(in alloc;
-        "{found} goes to a label that is a number; labels are names, as in again: and j again"
-    )
-}
-
 fn character_advice(alloc: Global, rest: &str) -> Result<String, AllocError> {
-    match quoted_number(rest) {
-        Some((quoted, number)) => {
-            format!(in alloc; "a character is written as its number: {quoted} is {number}")
-        }
-        None => String::from_str(alloc, "a character is written as its number"),
-    }
-}
-
-fn names_of(alloc: Global, forms: &[Form]) -> Result<Vec<&'static str>, AllocError> {
-    let mut names = Vec::new(alloc);
-    for (name, _) in forms {
-        names.push(*name)?;
-    }
-    Ok(names)
-}
-
-fn is_named(forms: &[Form], name: &str) -> bool {
-    forms.iter().any(|form| form.0 == name)
-}
-
-/// How a form is written.
-fn push_form(text: &mut String, form: Form) -> Result<(), AllocError> {
-    let (name, operands) = form;
-    text.push_str(name)?;
-    if !operands.is_empty() {
-        text.push(' ')?;
-        text.push_str(operands)?;
-    }
-    Ok(())
-}
-
-/// `written`, and how all forms of a name are written.
-fn written(alloc: Global, name: &str) -> Result<String, AllocError> {
-    let mut text = String::from_str(alloc, "written ")?;
-    let mut count = 0u32;
-    for form in INSTRUCTIONS.iter().chain(DIRECTIVES.iter()) {
-        if form.0 == name {
-            if count > 0 {
-                text.push_str(" or ")?;
-            }
-            push_form(&mut text, *form)?;
-            count = count.saturating_add(1);
-        }
+    let mut text = String::from_str(alloc, "a character is written as its number")?;
+    if let Some((quoted, number)) = quoted_number(rest) {
+        write!(text, ": {quoted} is {number}")?;
     }
     Ok(text)
 }
 
 /// What is said of a directive that is not there, or not there in text.
 fn directive_advice(alloc: Global, name: &str) -> Result<String, AllocError> {
-    if is_named(&DIRECTIVES, name) {
+    if is_known(name) {
         return format!(in alloc; "{name} stands in .data alone");
     }
-    let names = names_of(alloc, &DIRECTIVES)?;
-    match near(alloc, name, names.as_slice())? {
-        Some(near) => format!(in alloc; "{name} is not there; is it {near}?"),
+    match near(alloc, name, names(alloc, true)?.as_slice())? {
+        Some(near) => format!(in alloc; "{name} is not known here; is it {near}?"),
         None => format!(in alloc;
-            "{name} is not there; there are .text .data .word .byte .ascii .space"
+            "{name} is not known here; there are .text .data .word .byte .ascii .space"
         ),
     }
-}
-
-/// What is said of a word that is no mnemonic.
-fn mnemonic_advice(
-    alloc: Global,
-    labels: &Labels<'_>,
-    place: &Place<'_>,
-) -> Result<String, AllocError> {
-    let name = place.name;
-    let small = name.to_ascii_lowercase(alloc)?;
-    if is_named(&INSTRUCTIONS, small.as_str()) {
-        return format!(in alloc; "{name} is no instruction; in small letters it is {small}");
-    }
-    if labels.has(name) {
-        return format!(in alloc; "{name} is a label, and no instruction; j {name} goes there");
-    }
-    let names = names_of(alloc, &INSTRUCTIONS)?;
-    let mut text = format!(in alloc; "{name} is no instruction")?;
-    if let Some(near) = near(alloc, name, names.as_slice())? {
-        let written = written(alloc, near)?;
-        write!(text, "; is it {near}? {written}")?;
-    }
-    if place.code.trim_ascii() == name {
-        write!(text, "; a label has a colon: {name}:")?;
-    }
-    Ok(text)
 }
 
 /// What is said of the name of a statement.
 fn name_advice(
     alloc: Global,
-    labels: &Labels<'_>,
+    source: &Source<'_>,
     place: &Place<'_>,
 ) -> Result<String, AllocError> {
     let name = place.name;
     if name.starts_with('.') {
         return directive_advice(alloc, name);
     }
-    if name != "fence.i" && name.contains('.') {
-        return format!(in alloc;
-            "{name} is no instruction; a label has letters, digits and _ alone"
-        );
-    }
-    mnemonic_advice(alloc, labels, place)
-}
-
-/// Whether there is an instruction whose name is this one with `i` after it.
-fn has_immediate(alloc: Global, name: &str) -> Result<Option<String>, AllocError> {
-    let immediate = format!(in alloc; "{name}i")?;
-    if is_named(&INSTRUCTIONS, immediate.as_str()) {
-        Ok(Some(immediate))
+    let mut text = format!(in alloc; "{name} is no instruction")?;
+    let small = name.to_ascii_lowercase(alloc)?;
+    if name.contains('.') && name != "fence.i" {
+        text.push_str("; a label has letters, digits and _ alone")?;
+    } else if is_known(small.as_str()) {
+        write!(text, "; in small letters it is {small}")?;
+    } else if source.has(name) {
+        write!(text, ", but a label; j {name} goes there")?;
     } else {
-        Ok(None)
+        if let Some(near) = near(alloc, name, names(alloc, false)?.as_slice())? {
+            let written = written(alloc, near)?;
+            write!(text, "; is it {near}? {written}")?;
+        }
+        if place.code.trim_ascii() == name {
+            write!(text, "; a label has a colon: {name}:")?;
+        }
     }
-}
-
-/// What is said of a number where a register is wanted.
-fn number_for_register(alloc: Global, name: &str, found: &str) -> Result<String, AllocError> {
-    if name == "sub" {
-        return format!(in alloc;
-            "{found} is no register; addi takes a number, negated to subtract it"
-        );
-    }
-    match has_immediate(alloc, name)? {
-        Some(name) => format!(in alloc; "{found} is no register; {name} takes a number"),
-        None if found == "0" => String::from_str(alloc, "0 is no register; the register zero is 0"),
-        None => format!(in alloc; "{found} is no register; li puts a number into one"),
-    }
+    Ok(text)
 }
 
 /// What is said where a register is wanted.
 fn register_advice(alloc: Global, place: &Place<'_>) -> Result<String, AllocError> {
-    let found = place.found;
-    if begins_number(found) {
-        return number_for_register(alloc, place.name, found);
+    let (name, found) = (place.name, place.found);
+    let mut text = format!(in alloc; "{found} is no register")?;
+    let immediate = format!(in alloc; "{name}i")?;
+    if !begins_number(found) {
+        if let Some(near) = near(alloc, found, &REGISTERS)? {
+            write!(text, "; is it {near}?")?;
+        }
+    } else if is_known(immediate.as_str()) {
+        write!(text, "; {immediate} takes a number")?;
+    } else {
+        text.push_str(match found {
+            _ if name == "sub" => "; addi takes a number, negated to subtract it",
+            "0" => "; the register zero is 0",
+            _ => "; li puts a number into one",
+        })?;
     }
-    match near(alloc, found, &REGISTERS)? {
-        Some(near) => format!(in alloc; "{found} is no register; is it {near}?"),
-        None => format!(in alloc; "{found} is no register"),
-    }
+    Ok(text)
 }
 
-/// What is said where the number of a load, a store or `jalr` is wanted, and no number stands.
-fn offset_advice(alloc: Global, name: &str, found: &str) -> Result<String, AllocError> {
+/// What is said of what stands in the place of the number before `(rs1)`, if it shows what is meant.
+fn offset_advice(
+    alloc: Global,
+    wanted: &str,
+    name: &str,
+    found: &str,
+) -> Result<Option<String>, AllocError> {
+    if !wanted.ends_with("(rs1)") {
+        return Ok(None);
+    }
     if found == "(" {
-        return String::from_str(alloc, "a number stands before (: 0(rs1)");
+        let text = String::from_str(alloc, "a number stands before (: 0(rs1)")?;
+        return Ok(Some(text));
     }
     if is_register(found) {
-        return format!(in alloc; "a number stands before the register: 0({found})");
-    }
-    format!(in alloc; "for what stands at a label la rd,{found} first, then {name} with 0(rd)")
-}
-
-/// What is said of a register where a number is wanted.
-fn register_for_number(alloc: Global, name: &str, found: &str) -> Result<String, AllocError> {
-    if name == "li" {
-        return format!(in alloc; "{found} is no number; mv copies a register");
-    }
-    match name.strip_suffix('i') {
-        Some(plain) if is_named(&INSTRUCTIONS, plain) => {
-            format!(in alloc; "{found} is no number; {plain} takes a register")
-        }
-        _ => format!(in alloc; "{found} is no number"),
-    }
-}
-
-/// What is said of what is no register where a number is wanted.
-fn name_for_number(alloc: Global, labels: &Labels<'_>, found: &str) -> Result<String, AllocError> {
-    if labels.has(found) {
-        return format!(in alloc;
-            "{found} is no number; la rd,{found} puts the address of a label into a register"
-        );
+        let text = format!(in alloc; "a number stands before the register: 0({found})")?;
+        return Ok(Some(text));
     }
     if found.starts_with(begins_word) {
-        return format!(in alloc; "{found} is no number; numbers have no names here");
+        let text = format!(in alloc;
+            "for what stands at a label la rd,{found} first, then {name} with 0(rd)"
+        )?;
+        return Ok(Some(text));
     }
-    format!(in alloc; "{found} is no number")
+    Ok(None)
+}
+
+/// What is said of what is no number.
+fn no_number_advice(
+    alloc: Global,
+    source: &Source<'_>,
+    name: &str,
+    found: &str,
+) -> Result<String, AllocError> {
+    let plain = name.strip_suffix('i').unwrap_or("");
+    let mut text = format!(in alloc; "{found} is no number")?;
+    if is_register(found) && name == "li" {
+        text.push_str("; mv copies a register")?;
+    } else if is_register(found) && is_known(plain) {
+        write!(text, "; {plain} takes a register")?;
+    } else if source.has(found) {
+        write!(
+            text,
+            "; la rd,{found} puts the address of a label into a register"
+        )?;
+    } else if let Some((line, number)) = source.named_number(found) {
+        write!(text, "; write {number}, by line {line}")?;
+    } else if found.starts_with(begins_word) && !is_register(found) {
+        text.push_str("; numbers have no names here")?;
+    }
+    Ok(text)
 }
 
 /// What is said where a number is wanted.
 fn number_advice(
     alloc: Global,
-    labels: &Labels<'_>,
-    form: Form,
+    source: &Source<'_>,
+    wanted: &str,
     place: &Place<'_>,
 ) -> Result<String, AllocError> {
-    let (name, operands) = form;
-    let found = place.found;
-    if operands.ends_with("(rs1)") && (found == "(" || found.starts_with(begins_word)) {
-        return offset_advice(alloc, name, found);
+    match offset_advice(alloc, wanted, place.name, place.found)? {
+        Some(text) => Ok(text),
+        None => no_number_advice(alloc, source, place.name, place.found),
     }
-    if is_register(found) {
-        return register_for_number(alloc, name, found);
-    }
-    name_for_number(alloc, labels, found)
 }
 
-/// A name as a label may have it: with `_` for each dot inside.
-fn push_plain(text: &mut String, name: &str) -> Result<(), AllocError> {
-    for c in name.trim_start_matches('.').chars() {
-        text.push(if c == '.' { '_' } else { c })?;
-    }
-    Ok(())
-}
-
-/// What is said of a label with a dot in it.
+/// What is said of a label with a dot in it: with `_` for each dot inside it may be one.
 fn dotted_advice(alloc: Global, found: &str) -> Result<String, AllocError> {
     let mut text = String::from_str(alloc, "a label has letters, digits and _ alone, as ")?;
-    push_plain(&mut text, found)?;
+    for c in found.trim_start_matches('.').chars() {
+        text.push(if c == '.' { '_' } else { c })?;
+    }
     Ok(text)
 }
 
@@ -354,56 +270,54 @@ fn label_advice(alloc: Global, place: &Place<'_>) -> Result<String, AllocError> 
     format!(in alloc; "{found} is no label")
 }
 
-/// Whether a text begins an operand, and no mark.
-fn is_operand(found: &str) -> bool {
-    !matches!(found, "," | "(" | ")" | ":" | "")
-}
-
-/// What is said where a mark is wanted.
-fn mark_advice(alloc: Global, mark: char, found: &str) -> Result<String, AllocError> {
-    if mark == ',' && is_operand(found) {
-        return format!(in alloc; "a comma is missing before {found}");
-    }
-    format!(in alloc; "{mark} is missing before {found}")
-}
-
 /// What is said where the form has ended.
-fn end_advice(alloc: Global, place: &Place<'_>) -> Result<String, AllocError> {
-    let found = place.found;
-    if matches!(place.name, "jal" | "jalr") && is_operand(found) {
-        return format!(in alloc; "a comma is missing before {found}");
-    }
-    if found.starts_with('-') {
-        let said = if place.name == "la" {
-            LABEL_ALONE
-        } else {
-            COMPUTED
-        };
-        return String::from_str(alloc, said);
-    }
-    format!(in alloc; "nothing stands after it, and {found} does")
+fn end_advice(alloc: Global, name: &str, found: &str) -> Result<String, AllocError> {
+    let said = match name {
+        ".text" | ".data" => SECTIONS,
+        "la" if found.starts_with('-') => LABEL_ALONE,
+        _ if found.starts_with('-') => COMPUTED,
+        _ => return format!(in alloc; "nothing stands after it, and {found} does"),
+    };
+    String::from_str(alloc, said)
+}
+
+fn is_mark(found: &str) -> bool {
+    matches!(found, "," | "(" | ")" | ":")
+}
+
+/// What is said of a mark that is missing.
+fn missing_advice(alloc: Global, missing: &str, found: &str) -> Result<String, AllocError> {
+    format!(in alloc; "{missing} is missing before {found}")
+}
+
+/// What is said where the line ends and the form does not.
+fn short_advice(alloc: Global, wanted: &str) -> Result<String, AllocError> {
+    let missing = wanted.trim_end_matches(",..");
+    format!(in alloc; "here the line ends, and {missing} is missing")
 }
 
 /// What is said of an operand, by what the form wants in its place.
 fn operand_advice(
     alloc: Global,
-    labels: &Labels<'_>,
-    form: Form,
+    source: &Source<'_>,
+    wanted: &str,
     place: &Place<'_>,
 ) -> Result<String, AllocError> {
-    if place.found.is_empty() {
-        return format!(in alloc;
-            "here the line ends, and {} is missing",
-            missing_at(form, place)
-        );
-    }
-    match wanted_at(form, place) {
-        Piece::Register => register_advice(alloc, place),
-        Piece::Number => number_advice(alloc, labels, form, place),
-        Piece::Target | Piece::Label => label_advice(alloc, place),
-        Piece::Text => String::from_str(alloc, STRINGS),
-        Piece::Mark(mark) => mark_advice(alloc, mark, place.found),
-        Piece::End => end_advice(alloc, place),
+    let is_mark = is_mark(place.found);
+    match first_of(wanted).0 {
+        _ if place.found.is_empty() => short_advice(alloc, wanted),
+        "" if !matches!(place.name, "jal" | "jalr") || is_mark => {
+            end_advice(alloc, place.name, place.found)
+        }
+        "" | "," if !is_mark => missing_advice(alloc, "a comma", place.found),
+        "," if place.found == ":" => String::from_str(alloc, REPEATED),
+        "," => missing_advice(alloc, ",", place.found),
+        "(" => missing_advice(alloc, "(", place.found),
+        ")" => missing_advice(alloc, ")", place.found),
+        "number" => number_advice(alloc, source, wanted, place),
+        "target" | "label" => label_advice(alloc, place),
+        "\"text\"" => String::from_str(alloc, STRINGS),
+        _ => register_advice(alloc, place),
     }
 }
 
@@ -428,25 +342,28 @@ fn start_advice(alloc: Global, found: &str) -> Result<String, AllocError> {
 /// What is said of a line that has no form, at the place where it has none.
 pub fn syntax_advice(
     alloc: Global,
-    labels: &Labels<'_>,
+    source: &Source<'_>,
     place: &Place<'_>,
 ) -> Result<String, AllocError> {
-    let is_before = place.operands.is_none() && place.found != place.name;
-    if !is_before && let Some(instead) = instead_of(place.name) {
-        let name = place.name;
-        return format!(in alloc; "{name} is not there; in its place: {instead}");
+    let name = place.name;
+    if let Some(said) = file_advice(place) {
+        return String::from_str(alloc, said);
+    }
+    let is_before = place.operands.is_none() && place.found != name;
+    if !is_before && let Some(cure) = cure_of(name) {
+        return format!(in alloc; "{name} is not known here: {cure}");
     }
     if let Some(text) = shape_advice(alloc, place)? {
         return Ok(text);
     }
-    if is_before || place.name.is_empty() {
+    if is_before || name.is_empty() {
         return start_advice(alloc, place.found);
     }
-    match form_at(place) {
-        Some(form) if place.operands.is_some() => {
-            let said = operand_advice(alloc, labels, form, place)?;
-            format!(in alloc; "{}; {said}", written(alloc, place.name)?)
+    match (form_at(place), place.operands) {
+        (Some(form), Some(before)) => {
+            let said = operand_advice(alloc, source, wanted_after(form, before), place)?;
+            format!(in alloc; "{}; {said}", written(alloc, name)?)
         }
-        _ => name_advice(alloc, labels, place),
+        _ => name_advice(alloc, source, place),
     }
 }

@@ -1,7 +1,7 @@
 //! Which of a source's faults are told, one for each cause.
-use crate::labels::Labels;
 use crate::place::place_in;
 use crate::saying::said_of;
+use crate::source::Source;
 use assembler::{AsmFault, Cause};
 use std::alloc::{AllocError, Global};
 
@@ -24,32 +24,31 @@ pub struct Told {
 }
 
 impl Told {
-    fn is_same(&self, fault: AsmFault, key: &str) -> bool {
-        self.fault.why == fault.why && self.key.as_str() == key
-    }
-
-    /// Which other lines have the same fault; none where there are none.
-    pub fn other_lines(&self, alloc: Global) -> Result<Option<String>, AllocError> {
+    /// Adds which other lines have the same fault, if there are any.
+    pub fn push_lines(&self, text: &mut String) -> Result<(), AllocError> {
         let count = self.lines.len();
         if count == 0 {
-            return Ok(None);
+            return Ok(());
         }
-        let mut text = String::from_str(alloc, "the same at line")?;
-        text.push_str(if count > 1 { "s" } else { "" })?;
+        text.push_str(if count > 1 {
+            "the same at lines"
+        } else {
+            "the same at line"
+        })?;
         for (at, line) in self.lines.iter().take(MOST_LINES).enumerate() {
             let is_last = at.saturating_add(1) == count;
-            text.push_str(match at {
+            let mark = match at {
                 0 => " ",
                 _ if is_last => " and ",
                 _ => ", ",
-            })?;
-            write!(text, "{line}")?;
+            };
+            write!(text, "{mark}{line}")?;
         }
-        let more = count.saturating_sub(MOST_LINES);
-        if more > 0 {
+        if count > MOST_LINES {
+            let more = count - MOST_LINES;
             write!(text, " and {more} more")?;
         }
-        Ok(Some(text))
+        text.push('\n')
     }
 }
 
@@ -61,31 +60,19 @@ pub struct Telling {
 }
 
 /// By what faults are the same: what is said of them, or of a label its name.
-fn key_of(
-    alloc: Global,
-    labels: &Labels<'_>,
-    line: &str,
-    fault: AsmFault,
-) -> Result<String, AllocError> {
-    let place = place_in(line, fault.column);
+fn key_of(alloc: Global, source: &Source<'_>, fault: AsmFault) -> Result<String, AllocError> {
+    let place = place_in(source.line(fault.line), fault.column);
     match fault.why {
         Cause::UnknownName | Cause::DoubleLabel => String::from_str(alloc, place.found),
-        _ => said_of(alloc, labels, fault.why, &place),
+        _ => said_of(alloc, source, fault.why, &place),
     }
 }
 
 impl Telling {
-    fn new(alloc: Global) -> Telling {
-        Telling {
-            told: Vec::new(alloc),
-            more: 0,
-        }
-    }
-
     /// Adds the line of a fault to one that is told and is the same. False where none is.
     fn fold(&mut self, fault: AsmFault, key: &str) -> Result<bool, AllocError> {
         for told in &mut self.told {
-            if told.is_same(fault, key) {
+            if told.fault.why == fault.why && told.key.as_str() == key {
                 told.lines.push(fault.line)?;
                 return Ok(true);
             }
@@ -93,67 +80,49 @@ impl Telling {
         Ok(false)
     }
 
-    fn push(&mut self, alloc: Global, fault: AsmFault, key: String) -> Result<(), AllocError> {
-        self.told.push(Told {
-            fault,
-            key,
-            lines: Vec::new(alloc),
-        })?;
-        Ok(())
-    }
-
-    /// Counts a fault that is not told.
-    fn skip(&mut self) {
-        self.more = self.more.saturating_add(1);
-    }
-
-    /// Takes a fault, of which there is room for so many.
-    fn take(
+    /// Adds a fault if fewer than so many are told, and else counts it.
+    fn add(
         &mut self,
         alloc: Global,
         fault: AsmFault,
         key: String,
         room: usize,
     ) -> Result<(), AllocError> {
-        if self.fold(fault, key.as_str())? {
+        if self.told.len() >= room {
+            self.more = self.more.saturating_add(1);
             return Ok(());
         }
-        if self.told.len() < room {
-            return self.push(alloc, fault, key);
-        }
-        self.skip();
+        let lines = Vec::new(alloc);
+        self.told.push(Told { fault, key, lines })?;
         Ok(())
     }
-}
-
-/// The line of this number.
-fn line_at<'a>(lines: &[&'a str], number: usize) -> &'a str {
-    lines.get(number.saturating_sub(1)).copied().unwrap_or("")
 }
 
 /// Which of the faults of a source are told, in their order. That which the assembler tells is always among them. Of the others it is
 /// each of which something else is said, up to the most that are told.
 pub fn tell(
     alloc: Global,
-    source: &str,
+    source: &Source<'_>,
     faults: &[AsmFault],
     first: AsmFault,
 ) -> Result<Telling, AllocError> {
-    let labels = Labels::of(alloc, source)?;
-    let lines: Vec<&str> = source.split('\n').collect(alloc)?;
-    let mut telling = Telling::new(alloc);
+    let mut telling = Telling {
+        told: Vec::new(alloc),
+        more: 0,
+    };
     let mut room = MOST_TOLD.saturating_sub(1);
     for (before, fault) in faults.iter().enumerate() {
-        let line = line_at(lines.as_slice(), fault.line);
-        if *fault == first {
-            let key = key_of(alloc, &labels, line, *fault)?;
-            telling.push(alloc, *fault, key)?;
+        let is_first = *fault == first;
+        if is_first {
             room = MOST_TOLD;
-        } else if before < MOST_COMPARED {
-            let key = key_of(alloc, &labels, line, *fault)?;
-            telling.take(alloc, *fault, key, room)?;
+        }
+        if is_first || before < MOST_COMPARED {
+            let key = key_of(alloc, source, *fault)?;
+            if is_first || !telling.fold(*fault, key.as_str())? {
+                telling.add(alloc, *fault, key, room)?;
+            }
         } else {
-            telling.skip();
+            telling.more = telling.more.saturating_add(1);
         }
     }
     Ok(telling)

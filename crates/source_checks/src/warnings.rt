@@ -1,9 +1,8 @@
 //! What hardly does what is meant, though it assembles.
 use crate::doubt::Doubt;
 use crate::meanings::{A0, A1, A2, When, call_of, meaning_of};
-use asm_statements::{
-    Label, Link, Mnemonic, Operands, PlainOp, Statement, Value, read_statement, split_label,
-};
+use crate::statements::parts_of;
+use asm_statements::{Link, Mnemonic, Operands, PlainOp, Statement, Value};
 use asm_text::{Line, lines};
 use assembler::Position;
 use call_forms::Outcome;
@@ -17,44 +16,11 @@ const SP: u8 = 2;
 /// The number of the register a7, which says which call is made.
 const A7: u8 = 17;
 
-/// A warning, and the line of which it is: its number, and its bytes in the source.
+/// A warning, and the number of its line.
 #[derive(Clone, Copy, Debug)]
 pub struct Warning {
     pub line: usize,
-    pub start: usize,
-    pub end: usize,
     pub doubt: Doubt,
-}
-
-fn warning_of(line: &Line, doubt: Doubt) -> Warning {
-    Warning {
-        line: line.number,
-        start: line.start,
-        end: line.end,
-        doubt,
-    }
-}
-
-/// Which registers of arguments were written since the last call, a bit each.
-#[derive(Clone, Copy)]
-struct Arguments {
-    /// Those that were written.
-    set: u8,
-    /// These, and those in which something may be left for a call.
-    possible: u8,
-}
-
-/// What is known where a statement begins.
-#[derive(Clone, Copy)]
-struct Known {
-    position: Position,
-    /// The number in a7, where it is known.
-    call: Option<i64>,
-    arguments: Arguments,
-    /// The doubt about the last call, if it depends on what stands next.
-    waiting: Option<(When, Warning)>,
-    /// The warning that text runs on, if its last statement would.
-    last: Option<Warning>,
 }
 
 /// The number of an instruction, where it is written as one.
@@ -105,17 +71,6 @@ fn is_jump(mnemonic: Mnemonic) -> bool {
     )
 }
 
-/// The number in a7 after an instruction, where it is known.
-fn call_after(mnemonic: Mnemonic, operands: &Operands, call: Option<i64>) -> Option<i64> {
-    if is_jump(mnemonic) {
-        return None;
-    }
-    if written_by(mnemonic, operands) == Some(A7) {
-        return number_put(mnemonic, operands);
-    }
-    call
-}
-
 /// The bit of the register of an argument, and none of another register.
 fn argument_bit(register: u8) -> u8 {
     match register {
@@ -139,33 +94,6 @@ fn is_left_for_good(mnemonic: Mnemonic) -> bool {
 /// What the call of a number replies, if there is one.
 fn outcome_of(number: i64) -> Option<Outcome> {
     call_of(number).map(|call| call.form().outcome)
-}
-
-/// Which arguments are set after a call, of which it is known whether there is a doubt about it. A descriptor that is replied may be
-/// one of the next call.
-fn arguments_after_call(call: Option<i64>, is_doubtful: bool) -> Arguments {
-    let possible = match call {
-        Some(number) if is_doubtful || outcome_of(number) != Some(Outcome::Descriptor) => 0,
-        _ => A0,
-    };
-    Arguments { set: 0, possible }
-}
-
-/// Which arguments are set after an instruction that is no call of the kernel.
-fn arguments_after(mnemonic: Mnemonic, operands: &Operands, arguments: Arguments) -> Arguments {
-    if is_jump(mnemonic) {
-        let possible = if is_left_for_good(mnemonic) {
-            0
-        } else {
-            A0 | A1 | A2
-        };
-        return Arguments { set: 0, possible };
-    }
-    let bit = written_by(mnemonic, operands).map_or(0, argument_bit);
-    Arguments {
-        set: arguments.set | bit,
-        possible: arguments.possible | bit,
-    }
 }
 
 /// Whether control goes on to the next word after an instruction, as far as can be said.
@@ -200,13 +128,6 @@ fn doubt_of(mnemonic: Mnemonic, operands: &Operands, call: Option<i64>) -> Optio
     }
 }
 
-/// The doubt that a call of this number is meant, where it is known.
-fn meaning(line: &Line, call: Option<i64>, arguments: Arguments) -> Option<(When, Warning)> {
-    let call = call_of(call?)?;
-    let (when, said) = meaning_of(call, arguments.set, arguments.possible)?;
-    Some((when, warning_of(line, Doubt::OtherCall { call, said })))
-}
-
 /// Whether a doubt about a call is one before this instruction, or before none.
 fn is_doubtful(when: When, next: Option<Mnemonic>) -> bool {
     match when {
@@ -217,124 +138,6 @@ fn is_doubtful(when: When, next: Option<Mnemonic>) -> bool {
     }
 }
 
-/// What is known after an instruction of text.
-fn after_instruction(line: &Line, mnemonic: Mnemonic, operands: &Operands, known: Known) -> Known {
-    let last = if goes_on(mnemonic, known.call) {
-        Some(warning_of(line, Doubt::RunsOn))
-    } else {
-        None
-    };
-    let (waiting, arguments) = match mnemonic {
-        Mnemonic::Plain(PlainOp::Ecall) => {
-            let waiting = meaning(line, known.call, known.arguments);
-            (waiting, arguments_after_call(known.call, waiting.is_some()))
-        }
-        _ => (None, arguments_after(mnemonic, operands, known.arguments)),
-    };
-    Known {
-        call: call_after(mnemonic, operands, known.call),
-        arguments,
-        waiting,
-        last,
-        ..known
-    }
-}
-
-/// What is known after a statement of text, which takes words or does not.
-fn after_text(line: &Line, statement: &Statement, takes: bool, known: Known) -> Known {
-    match statement {
-        Statement::Instruction(mnemonic, operands) => {
-            after_instruction(line, *mnemonic, operands, known)
-        }
-        _ if takes => Known {
-            call: None,
-            last: None,
-            ..known
-        },
-        _ => known,
-    }
-}
-
-/// What is known after a statement.
-fn after(line: &Line, statement: &Statement, known: Known) -> Known {
-    let before = known.position;
-    let position = before.after(statement, line.tokens.as_slice());
-    let known = Known { position, ..known };
-    if before.in_data {
-        return known;
-    }
-    after_text(line, statement, position.words != before.words, known)
-}
-
-/// The doubt about a statement, where data begins here.
-fn doubt_about(statement: &Statement, base: u32, known: Known) -> Option<Doubt> {
-    let position = known.position;
-    match statement {
-        Statement::Words if position.in_data && position.bytes % 4 != 0 => {
-            Some(Doubt::Words {
-                at: base.saturating_add(position.bytes),
-            })
-        }
-        Statement::Instruction(mnemonic, operands) if !position.in_data => {
-            doubt_of(*mnemonic, operands, known.call)
-        }
-        _ => None,
-    }
-}
-
-/// Adds the doubt about the last call, if this statement lets it be one, and forgets it.
-fn settle(
-    label: Option<Label>,
-    statement: &Statement,
-    known: Known,
-    found: &mut Vec<Warning>,
-) -> Result<Known, AllocError> {
-    if label.is_none() && matches!(statement, Statement::Nothing) {
-        return Ok(known);
-    }
-    let next = match statement {
-        Statement::Instruction(mnemonic, _) if label.is_none() => Some(*mnemonic),
-        _ => None,
-    };
-    if let Some((when, warning)) = known.waiting
-        && is_doubtful(when, next)
-    {
-        found.push(warning)?;
-    }
-    Ok(Known {
-        waiting: None,
-        ..known
-    })
-}
-
-/// Goes over a line, and adds its warning, if it has one. A label forgets what is in a7, since control may come from elsewhere.
-fn warn_line(
-    source: &[u8],
-    line: &Line,
-    base: u32,
-    known: Known,
-    found: &mut Vec<Warning>,
-) -> Result<Known, AllocError> {
-    let Ok((label, rest)) = split_label(source, line.tokens.as_slice()) else {
-        return Ok(known);
-    };
-    let Ok(statement) = read_statement(source, known.position.in_data, line.end, rest) else {
-        return Ok(known);
-    };
-    let known = settle(label, &statement, known, found)?;
-    let known = match label {
-        Some(_) => Known {
-            call: None,
-            ..known
-        },
-        None => known,
-    };
-    if let Some(doubt) = doubt_about(&statement, base, known) {
-        found.push(warning_of(line, doubt))?;
-    }
-    Ok(after(line, &statement, known))
-}
-
 /// Where data begins.
 fn base_of(image: &Image) -> u32 {
     match image.segments().get(1) {
@@ -343,43 +146,168 @@ fn base_of(image: &Image) -> u32 {
     }
 }
 
-/// Before the first line.
-fn start() -> Known {
-    Known {
-        position: Position::start(),
-        call: None,
-        arguments: Arguments {
-            set: 0,
-            possible: 0,
-        },
-        waiting: None,
-        last: None,
-    }
+/// What is known where a statement begins, and the warnings so far.
+#[derive(Drop)]
+struct Walk {
+    base: u32,
+    position: Position,
+    /// The number in a7, where it is known.
+    call: Option<i64>,
+    /// Which registers of arguments were written since the last call, a bit each.
+    set: u8,
+    /// These, and those in which something may be left for a call.
+    possible: u8,
+    /// The doubt about the last call, if it depends on what stands next.
+    waiting: Option<(When, Warning)>,
+    /// The warning that text runs on, if its last statement would.
+    last: Option<Warning>,
+    found: Vec<Warning>,
 }
 
-/// The warnings about the lines of a source whose data begins here.
-fn warn_lines(
-    alloc: Global,
-    source: &[u8],
-    lines: &[Line],
-    base: u32,
-) -> Result<Vec<Warning>, AllocError> {
-    let mut found = Vec::new(alloc);
-    let mut known = start();
-    for line in lines {
-        known = warn_line(source, line, base, known, &mut found)?;
+impl Walk {
+    fn new(alloc: Global, image: &Image) -> Walk {
+        Walk {
+            base: base_of(image),
+            position: Position::start(),
+            call: None,
+            set: 0,
+            possible: 0,
+            waiting: None,
+            last: None,
+            found: Vec::new(alloc),
+        }
     }
-    known = settle(None, &Statement::Text, known, &mut found)?;
-    if let Some(last) = known.last {
-        found.push(last)?;
+
+    /// Adds the doubt about the last call, if this instruction lets it be one, or none, and forgets it.
+    fn settle(&mut self, next: Option<Mnemonic>) -> Result<(), AllocError> {
+        let waiting = self.waiting;
+        self.waiting = None;
+        if let Some((when, warning)) = waiting
+            && is_doubtful(when, next)
+        {
+            self.found.push(warning)?;
+        }
+        Ok(())
     }
-    Ok(found)
+
+    /// The doubt that the call of a line is meant.
+    fn meaning(&self, line: usize) -> Option<(When, Warning)> {
+        let call = call_of(self.call?)?;
+        let (when, said) = meaning_of(call, self.set, self.possible)?;
+        let doubt = Doubt::OtherCall { call, said };
+        Some((when, Warning { line, doubt }))
+    }
+
+    /// Goes over an `ecall`. A descriptor that it replies may be an argument of the next call.
+    fn pass_call(&mut self, line: usize) {
+        self.waiting = self.meaning(line);
+        let is_doubtful = self.waiting.is_some();
+        self.set = 0;
+        self.possible = match self.call {
+            Some(number) if is_doubtful || outcome_of(number) != Some(Outcome::Descriptor) => 0,
+            _ => A0,
+        };
+    }
+
+    /// Goes over an instruction of text.
+    fn pass_instruction(&mut self, line: usize, mnemonic: Mnemonic, operands: &Operands) {
+        let doubt = Doubt::RunsOn;
+        let goes_on = goes_on(mnemonic, self.call);
+        self.last = if goes_on {
+            Some(Warning { line, doubt })
+        } else {
+            None
+        };
+        let written = written_by(mnemonic, operands);
+        if matches!(mnemonic, Mnemonic::Plain(PlainOp::Ecall)) {
+            self.pass_call(line);
+        } else if is_jump(mnemonic) {
+            self.call = None;
+            self.set = 0;
+            self.possible = if is_left_for_good(mnemonic) {
+                0
+            } else {
+                A0 | A1 | A2
+            };
+        } else {
+            let bit = written.map_or(0, argument_bit);
+            self.set |= bit;
+            self.possible |= bit;
+            if written == Some(A7) {
+                self.call = number_put(mnemonic, operands);
+            }
+        }
+    }
+
+    /// Goes over a statement.
+    fn pass(&mut self, line: &Line, statement: &Statement) {
+        let before = self.position;
+        self.position = before.after(statement, line.tokens.as_slice());
+        match statement {
+            _ if before.in_data => {}
+            Statement::Instruction(mnemonic, operands) => {
+                self.pass_instruction(line.number, *mnemonic, operands);
+            }
+            _ if self.position.words != before.words => {
+                self.call = None;
+                self.last = None;
+            }
+            _ => {}
+        }
+    }
+
+    /// The doubt about a statement.
+    fn doubt(&self, statement: &Statement) -> Option<Doubt> {
+        let (in_data, bytes) = (self.position.in_data, self.position.bytes);
+        match statement {
+            Statement::Words if in_data && bytes % 4 != 0 => {
+                let at = self.base.saturating_add(bytes);
+                Some(Doubt::Words { at })
+            }
+            Statement::Instruction(mnemonic, operands) if !in_data => {
+                doubt_of(*mnemonic, operands, self.call)
+            }
+            _ => None,
+        }
+    }
+
+    /// Goes over a line, and adds its warning, if it has one. A label forgets what is in a7, since control may come from elsewhere.
+    fn pass_line(&mut self, source: &[u8], line: &Line) -> Result<(), AllocError> {
+        let Ok((label, statement)) = parts_of(source, line, self.position.in_data) else {
+            return Ok(());
+        };
+        let next = match statement {
+            Statement::Instruction(mnemonic, _) if label.is_none() => Some(mnemonic),
+            _ => None,
+        };
+        if label.is_some() || !matches!(statement, Statement::Nothing) {
+            self.settle(next)?;
+        }
+        if label.is_some() {
+            self.call = None;
+        }
+        if let Some(doubt) = self.doubt(&statement) {
+            let line = line.number;
+            self.found.push(Warning { line, doubt })?;
+        }
+        self.pass(line, &statement);
+        Ok(())
+    }
 }
 
 /// The warnings about a source that assembles to this image, by rising lines; that text runs on comes last.
 pub fn warnings(alloc: Global, source: &str, image: &Image) -> Result<Vec<Warning>, AllocError> {
-    match lines(alloc, source) {
-        Ok(lines) => warn_lines(alloc, source.as_bytes(), lines.as_slice(), base_of(image)),
-        Err(_) => Err(AllocError),
+    let Ok(lines) = lines(alloc, source) else {
+        return Err(AllocError);
+    };
+    let mut walk = Walk::new(alloc, image);
+    for line in &lines {
+        walk.pass_line(source.as_bytes(), line)?;
     }
+    walk.settle(None)?;
+    if let Some(last) = walk.last {
+        walk.found.push(last)?;
+    }
+    let Walk { found, .. } = walk;
+    Ok(found)
 }

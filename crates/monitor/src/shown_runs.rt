@@ -1,0 +1,66 @@
+//! Runs that are shown: those of scripts, and those of programs, which become scripts.
+use exec_records::steps_of;
+use exec_reports::{Family, print_ending};
+use exec_runs::{Ending, Order, Turns};
+use faults::Fault;
+use kernel::Core;
+use run_files::Subject;
+use scripts::Script;
+use std::io::Write;
+use std::rt::Files;
+
+/// A script whose run is shown, and what is known of its programs.
+#[derive(Drop)]
+pub struct ShownRun {
+    pub script: Script,
+    pub family: Family,
+}
+
+/// Runs a core by turns, as `exec` does, to its end or until so many instructions were run.
+fn run_to(core: &mut Core, limit: u64) -> Result<Ending, Fault> {
+    let mut turns = Turns::new(Order {
+        seed: None,
+        limit: Some(limit),
+    });
+    for _ in 0..u64::MAX {
+        let Some(event) = turns.next(core) else {
+            break;
+        };
+        if core.apply(event).is_err() {
+            return Err(Fault::OutOfMemory);
+        }
+    }
+    Ok(turns.ending())
+}
+
+impl ShownRun {
+    /// A script as it is; of programs, or of set-up lines alone, the script of their run by turns, to the end or until so many instructions
+    /// were run. Then lines on `err` say where each process stands.
+    pub fn of<R: Files + AllocGlobal, E: Write>(
+        rt: &R,
+        subject: Subject,
+        limit: u64,
+        err: &mut E,
+    ) -> Result<ShownRun, Fault> {
+        let alloc = rt.alloc();
+        let Subject {
+            mut setup,
+            mut steps,
+            programs,
+        } = subject;
+        let mut family = Family::new(alloc, programs, setup.programs.len())?;
+        if steps.is_empty() {
+            let mut core = setup.boot(rt, None)?;
+            let ending = run_to(&mut core, limit)?;
+            steps = steps_of(alloc, core.history())?;
+            if ending != Ending::Over {
+                family.forget_executed(&core);
+                print_ending(&core, &family, ending, err)?;
+            }
+        }
+        Ok(ShownRun {
+            script: Script { setup, steps },
+            family,
+        })
+    }
+}
