@@ -1,7 +1,7 @@
 //! `kind_of`: what a file holds, by its bytes.
 use crate::fields::value_at;
 use faults::{Fault, Refusal};
-use source_checks::{form_of, is_c};
+use source_checks::form_of;
 use std::alloc::Global;
 use std::fmt;
 
@@ -56,7 +56,7 @@ impl fmt::Display for KindText<'_> {
             FileKind::Other => {
                 return f.write_str("it is no image, no executable for RISC-V and no source");
             }
-            FileKind::Image => ("an image", "bench run", ""),
+            FileKind::Image => ("an image", "bench exec", ""),
             FileKind::Executable => ("an executable", "bench exec", ""),
             FileKind::Script => ("a script", "bench replay", ""),
             FileKind::Source => ("a source", "bench exec", ""),
@@ -107,6 +107,17 @@ pub fn is_script(text: &str) -> bool {
         }
     }
     false
+}
+
+/// Whether a line ends with a brace, outside comments and strings, as no line of assembly language does.
+fn ends_with_brace(line: &str) -> bool {
+    let code = line.split('#').next().unwrap_or("").trim_ascii_end();
+    !code.contains('"') && (code.ends_with('{') || code.ends_with('}'))
+}
+
+/// Whether a text is one of C.
+fn is_c(text: &str) -> bool {
+    text.lines().any(ends_with_brace)
 }
 
 /// Whether a text is meant as a source: its first line that is no comment begins with a label, a directive or an instruction.
