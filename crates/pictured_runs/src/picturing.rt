@@ -6,11 +6,10 @@ use call_lines::{call_text, reply_text};
 use faults::Fault;
 use kernel::{Answer, Core, Event, Machine};
 use pictures::{Deed, Picture, Row, draw};
-use scripts::{AnswerText, EventText, Script, Setup, Start, Visitor, play_all};
+use scripts::{AnswerText, EventText, LastBoot, Launch, Step, Visitor, play_all};
 use std::alloc::{AllocError, Global};
 use std::io::Write;
 use std::mem;
-use std::rt::Files;
 
 /// The most bytes that a call shows of what it writes or of a name.
 const MOST_BYTES: usize = 8;
@@ -75,8 +74,8 @@ fn deed_of(event: Event, call: String, outcome: String) -> Deed {
 
 /// The visitor that makes the picture while a script is played: of the whole run, or `alone` of the run since the last boot.
 #[derive(Drop)]
-struct Pictured<'a, R> {
-    start: Start<'a, R>,
+struct Pictured<'a> {
+    boot: LastBoot<'a>,
     alone: bool,
     builder: PictureBuilder,
     /// The text of the call of the event that is to be applied.
@@ -85,12 +84,11 @@ struct Pictured<'a, R> {
     waiting: Vec<u32>,
 }
 
-impl<'a, R: Files + AllocGlobal> Pictured<'a, R> {
+impl<'a> Pictured<'a> {
     /// Before the first boot.
-    fn new(rt: &'a R, setup: &'a mut Setup, alone: bool) -> Result<Pictured<'a, R>, Fault> {
-        let alloc = rt.alloc();
+    fn new(alloc: Global, launch: &'a Launch, alone: bool) -> Result<Pictured<'a>, Fault> {
         Ok(Pictured {
-            start: Start::new(rt, setup),
+            boot: LastBoot::new(alloc, launch),
             alone,
             builder: PictureBuilder::new(alloc)?,
             call: String::new(alloc),
@@ -116,7 +114,7 @@ impl<'a, R: Files + AllocGlobal> Pictured<'a, R> {
 
     /// The row of an event that was accepted last.
     fn row_of(&mut self, core: &Core, event: Event, answer: Answer) -> Result<Row, AllocError> {
-        let alloc = self.start.alloc();
+        let alloc = self.boot.alloc;
         let call = mem::replace(&mut self.call, String::new(alloc));
         let outcome = outcome_after(alloc, core, event, answer)?;
         let number = core.history().len();
@@ -135,12 +133,12 @@ impl<'a, R: Files + AllocGlobal> Pictured<'a, R> {
     fn boot_again(&mut self, next: &Core) -> Result<(), Fault> {
         self.waiting.clear();
         if self.alone {
-            self.builder = PictureBuilder::new(self.start.alloc())?;
+            self.builder = PictureBuilder::new(self.boot.alloc)?;
             return Ok(());
         }
         self.builder.boot();
         let picture = &mut self.builder.picture;
-        Ok(push_files(self.start.alloc(), picture, next.boot_files())?)
+        Ok(push_files(self.boot.alloc, picture, next.boot_files())?)
     }
 
     /// Completes the picture of a run that has come to its end, and shows the cone of an event in it, if a number is given.
@@ -148,17 +146,17 @@ impl<'a, R: Files + AllocGlobal> Pictured<'a, R> {
         let picture = &mut self.builder.picture;
         note_processes(picture, core);
         match cone {
-            Some(event) => show_cone(self.start.alloc(), core, picture, event),
+            Some(event) => show_cone(self.boot.alloc, core, picture, event),
             None => Ok(()),
         }
     }
 }
 
-impl<R: Files + AllocGlobal> Visitor for Pictured<'_, R> {
+impl Visitor for Pictured<'_> {
     type Fault = Fault;
 
     fn before(&mut self, core: &Core, event: Event) -> Result<(), Fault> {
-        self.call = call_before(self.start.alloc(), core, event)?;
+        self.call = call_before(self.boot.alloc, core, event)?;
         Ok(())
     }
 
@@ -167,16 +165,13 @@ impl<R: Files + AllocGlobal> Visitor for Pictured<'_, R> {
             return Ok(());
         }
         let row = self.row_of(core, event, answer)?;
-        Ok(
-            self.builder
-                .push_event(self.start.alloc(), core, event, row)?,
-        )
+        Ok(self.builder.push_event(self.boot.alloc, core, event, row)?)
     }
 
     fn crash(&mut self, core: Core, fill: &[u8]) -> Result<Core, Fault> {
-        push_crash(self.start.alloc(), &mut self.builder, fill)?;
+        push_crash(self.boot.alloc, &mut self.builder, fill)?;
         note_processes(&mut self.builder.picture, &core);
-        let next = self.start.crash(core, fill)?;
+        let next = self.boot.crash(core, fill)?;
         self.boot_again(&next)?;
         Ok(next)
     }
@@ -187,16 +182,17 @@ impl<R: Files + AllocGlobal> Visitor for Pictured<'_, R> {
 /// refused event is not drawn, nor is a line that applies none. With the number of an event it draws the run since the last boot
 /// alone, pale where that event does not rest on it, with arrows for the paths between processes. `Fault::Event`: there is no such
 /// event, or it is a Cut, a Complete or a Fail. The script is run before anything is written.
-pub fn picture<R: Files + AllocGlobal, O: Write>(
-    rt: &R,
-    mut script: Script,
+pub fn picture<O: Write>(
+    alloc: Global,
+    launch: &Launch,
+    steps: &[Step],
     cone: Option<u64>,
     out: &mut O,
 ) -> Result<(), Fault> {
-    let mut pictured = Pictured::new(rt, &mut script.setup, cone.is_some())?;
-    let core = pictured.start.boot()?;
-    let core = play_all(&mut pictured, core, script.steps.as_slice())?;
+    let mut pictured = Pictured::new(alloc, launch, cone.is_some())?;
+    let core = pictured.boot.boot()?;
+    let core = play_all(&mut pictured, core, steps)?;
     pictured.finish(&core, cone)?;
-    draw(rt.alloc(), &pictured.builder.picture, out)?;
+    draw(alloc, &pictured.builder.picture, out)?;
     Ok(())
 }

@@ -7,8 +7,8 @@ use command_line::ExecOptions;
 use exec_files::LoadedProgram;
 use exec_reports::Family;
 use faults::Fault;
-use run_files::{Booted, Input, boot_on, of_disk, setup_of, tapes_in};
-use scripts::Setup;
+use run_files::{Booted, Input, boot_on, launch_of, of_disk, tapes_in};
+use scripts::Launch;
 use std::alloc::Global;
 use std::fs::File;
 use std::io::{Read, Write};
@@ -22,11 +22,11 @@ fn recorded_of(
     options: &ExecOptions<'_>,
     programs: &[LoadedProgram],
     tapes: &[Bytes],
-) -> Result<Option<Setup>, Fault> {
+) -> Result<Option<Launch>, Fault> {
     if options.record.is_none() && options.picture.is_none() {
         return Ok(None);
     }
-    Ok(Some(setup_of(alloc, programs, tapes)?))
+    Ok(Some(launch_of(alloc, programs, tapes)?))
 }
 
 /// Reads the programs and the tapes of a run, and boots its core.
@@ -39,14 +39,14 @@ fn prepare<'a, R: Files<File = File> + AllocGlobal, I: Read>(
     let mut input = Input::new(input);
     let (programs, loaded) = programs_in(rt, options.run.images.as_slice(), &mut input)?;
     let tapes = tapes_in(rt, options.run.tapes.as_slice(), &mut input)?;
-    let setup = recorded_of(alloc, options, loaded.as_slice(), tapes.as_slice())?;
+    let launch = recorded_of(alloc, options, loaded.as_slice(), tapes.as_slice())?;
     let count = loaded.len();
     let family = Family::new(alloc, loaded, count)?;
     let execution = Execution {
         rt,
         options,
         watching: Watching::new(alloc, options, family),
-        setup,
+        launch,
     };
     let booted = boot_on(rt, &options.run, programs, tapes)?;
     Ok((execution, booted))

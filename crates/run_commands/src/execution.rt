@@ -14,7 +14,7 @@ use executor::{Run, RunFault};
 use faults::{Fault, Refusal};
 use kernel::{Answer, Core, Event};
 use run_files::keep_disk;
-use scripts::Setup;
+use scripts::Launch;
 use std::fs::File;
 use std::io::Write;
 use std::rt::Files;
@@ -27,7 +27,7 @@ pub struct Execution<'a, R> {
     pub options: &'a ExecOptions<'a>,
     pub watching: Watching,
     /// What is recorded, or drawn, of the run before its events.
-    pub setup: Option<Setup>,
+    pub launch: Option<Launch>,
 }
 
 impl<R> Drop for Execution<'_, R> {
@@ -36,7 +36,7 @@ impl<R> Drop for Execution<'_, R> {
             rt: _,
             options: _,
             watching: _watching,
-            setup: _setup,
+            launch: _launch,
         } = self;
     }
 }
@@ -161,7 +161,7 @@ impl<R: Files<File = File> + AllocGlobal + Threads + Wait + Sync> Execution<'_, 
             self.watching.log_to(self.options.logged, log.try_clone()?)?;
         }
         let (core, ending) = self.run_whole(booted, out, err)?;
-        let kept = keep_outputs(self.rt, outputs, self.setup.take(), &core);
+        let kept = keep_outputs(self.rt, outputs, self.launch.take(), &core);
         let status = self.finish((core, ending), out, err)?;
         kept?;
         Ok(status)
