@@ -16,9 +16,10 @@ pub struct ProcessCounts {
     pub calls: [u64; NUMBERS],
 }
 
-/// How much each process did, from process 1 on.
+/// How much each process did.
 #[derive(Drop)]
 pub struct Counts {
+    /// By their numbers; there is no process 0.
     processes: Vec<ProcessCounts>,
 }
 
@@ -26,11 +27,6 @@ const NOTHING: ProcessCounts = ProcessCounts {
     instructions: 0,
     calls: [0; NUMBERS],
 };
-
-/// The place of a process in a list.
-fn place_of(pid: u32) -> usize {
-    pid.saturating_sub(1) as usize
-}
 
 impl Counts {
     pub fn new(alloc: Global) -> Counts {
@@ -41,10 +37,8 @@ impl Counts {
 
     /// What a process did; nothing if it did not run.
     pub fn of(&self, pid: u32) -> ProcessCounts {
-        match self.processes.as_slice().get(place_of(pid)) {
-            Some(counts) => *counts,
-            None => NOTHING,
-        }
+        let counts = self.processes.as_slice().get(pid as usize);
+        counts.copied().unwrap_or(NOTHING)
     }
 }
 
@@ -61,7 +55,7 @@ impl Observer for Counts {
     }
 
     fn event(&mut self, _core: &Core, done: &EventRecord<'_>) -> Result<(), Fault> {
-        let place = place_of(done.process());
+        let place = done.process() as usize;
         for _ in self.processes.len()..=place {
             self.processes.push(NOTHING)?;
         }

@@ -28,27 +28,8 @@ fn sum_of(entries: &[(u32, u64)]) -> u64 {
     sum
 }
 
-/// Prints a line for each part; not for a function of which nothing was executed.
-fn print_parts<E: Write>(
-    path: &str,
-    parts: &[Part<'_>],
-    entries: &[(u32, u64)],
-    err: &mut E,
-) -> Result<(), Fault> {
-    let mut rest = entries;
-    for (place, part) in parts.iter().enumerate() {
-        let (inside, after) = split_below(rest, start_of(parts, place.saturating_add(1)));
-        rest = after;
-        let (count, name) = (sum_of(inside), part.name);
-        if count > 0 || name.is_line() {
-            write_line(err, format_args!("{count:>12}  {path}{name}"))?;
-        }
-    }
-    Ok(())
-}
-
-/// Prints how many instructions of a program were executed: in all, at each word before its parts, and in each part. The entries have the
-/// addresses, in ascending order, and how many were executed there.
+/// Prints how many instructions of a program were executed: in all, at each word before its parts, and in each part, if it
+/// is a line or if some of it were. The entries have the addresses, in ascending order, and how many were executed there.
 pub fn print_listing<E: Write>(
     alloc: Global,
     program: &LoadedProgram,
@@ -59,11 +40,20 @@ pub fn print_listing<E: Write>(
     let all = sum_of(entries);
     write_line(err, format_args!("profile of {path}: {all} instructions"))?;
     let parts = program.parts(alloc)?;
-    let (words, rest) = split_below(entries, start_of(parts.as_slice(), 0));
+    let (words, mut rest) = split_below(entries, start_of(parts.as_slice(), 0));
     for (address, count) in words {
         let address = *address;
         let word = WordText { program, address };
         write_line(err, format_args!("{count:>12}  {word}"))?;
     }
-    print_parts(path, parts.as_slice(), rest, err)
+    for (place, part) in parts.iter().enumerate() {
+        let end = start_of(parts.as_slice(), place.saturating_add(1));
+        let (inside, after) = split_below(rest, end);
+        rest = after;
+        let (count, name) = (sum_of(inside), part.name);
+        if count > 0 || name.is_line() {
+            write_line(err, format_args!("{count:>12}  {path}{name}"))?;
+        }
+    }
+    Ok(())
 }

@@ -1,10 +1,10 @@
 //! A log of the instructions of one process, made while a run goes on.
 use commit_logs::{write_call, write_steps};
-use faults::Fault;
+use faults::{Fault, at_path};
 use kernel::{Answer, Core, Event};
 use run_events::{EventRecord, Interest, Observer, Told};
 use std::alloc::Global;
-use std::io::{self, Write};
+use std::io::Write;
 
 /// Writes a log in the form of Spike's commit log. Nothing of it is kept, so it takes no more memory the longer a run is.
 #[derive(Drop)]
@@ -18,15 +18,9 @@ pub struct StepLog<'p, W> {
 }
 
 impl<W: Write> StepLog<'_, W> {
-    /// The fault of a write to the log, if it failed.
-    fn at_path(&self, written: io::Result<()>) -> Result<(), Fault> {
-        faults::at_path(self.alloc, self.path, written)
-    }
-
     /// Writes what has not gone out.
     pub fn finish(&mut self) -> Result<(), Fault> {
-        let flushed = self.out.flush();
-        self.at_path(flushed)
+        at_path(self.alloc, self.path, self.out.flush())
     }
 }
 
@@ -58,6 +52,6 @@ impl<W: Write> Observer for StepLog<'_, W> {
             }
             _ => Ok(()),
         };
-        self.at_path(written)
+        at_path(self.alloc, self.path, written)
     }
 }

@@ -166,10 +166,8 @@ pub fn write_json<W: Write>(
     out: &mut W,
 ) -> Result<(), Fault> {
     let object = object_of(alloc, run)?;
-    let Ok(text) = serde_json::to_string(alloc, &object) else {
-        return Err(Fault::OutOfMemory);
-    };
-    let text = text.as_str();
-    writeln!(out, "{text}")?;
-    Ok(())
+    match serde_json::to_string(alloc, &object) {
+        Ok(text) => Ok(writeln!(out, "{text}")?),
+        Err(_) => Err(Fault::OutOfMemory),
+    }
 }

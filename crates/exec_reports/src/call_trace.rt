@@ -1,5 +1,4 @@
 //! Calls, told one by one while a run goes on.
-use crate::errors::error_name;
 use call_forms::{BytesText, CallText, Style};
 use call_lines::style_of;
 use faults::{Fault, write_line};
@@ -13,6 +12,25 @@ use std::io::Write;
 
 /// The most bytes that are told of what is written or read, or of a name.
 const MOST_BYTES: usize = 32;
+
+/// The name of an error, if the number is one.
+fn error_name(number: i32) -> Option<&'static str> {
+    let name = match number {
+        -2 => "ENOENT",
+        -8 => "ENOEXEC",
+        -9 => "EBADF",
+        -10 => "ECHILD",
+        -14 => "EFAULT",
+        -22 => "EINVAL",
+        -23 => "ENFILE",
+        -24 => "EMFILE",
+        -27 => "EFBIG",
+        -32 => "EPIPE",
+        -38 => "ENOSYS",
+        _ => return None,
+    };
+    Some(name)
+}
 
 /// What came of a call or a trap. Nothing is told to a process that waits.
 #[derive(Clone, Copy)]

@@ -5,7 +5,6 @@
 
 mod call_trace;
 mod ending;
-mod errors;
 mod family;
 mod lines;
 mod places;

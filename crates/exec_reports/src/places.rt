@@ -15,14 +15,6 @@ pub struct StandText<'c, 'f> {
     pub pid: u32,
 }
 
-/// Writes the instruction that a word means.
-fn write_instruction<W: fmt::Write>(f: &mut fmt::Formatter<W>, word: u32) -> fmt::Result {
-    match decode(word) {
-        Some(instruction) => write!(f, ", {instruction}"),
-        None => write!(f, ", the word {word:08x}"),
-    }
-}
-
 /// Nothing where no word may be fetched: a jump into nowhere has no line, and is in no function.
 impl fmt::Display for StandText<'_, '_> {
     fn fmt<W: fmt::Write>(&self, f: &mut fmt::Formatter<W>) -> fmt::Result {
@@ -33,7 +25,10 @@ impl fmt::Display for StandText<'_, '_> {
         let Ok(word) = machine.space().fetch(address) else {
             return Ok(());
         };
-        write_instruction(f, word)?;
+        match decode(word) {
+            Some(instruction) => write!(f, ", {instruction}")?,
+            None => write!(f, ", the word {word:08x}")?,
+        }
         match self.family.program_of(self.pid) {
             Some(program) => {
                 let place = PlaceText {

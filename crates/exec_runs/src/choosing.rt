@@ -20,9 +20,6 @@ pub struct Order {
     pub limit: Option<u64>,
 }
 
-/// A turn: of which process, and of how many instructions at most.
-pub type Turn = (u32, u32);
-
 #[derive(Clone, Copy)]
 pub struct Chooser {
     random: Option<Random>,
@@ -90,7 +87,7 @@ fn next_free(core: &Core, last: u32) -> Option<u32> {
 
 /// A turn by chance. After one in vain, of a process that waits, it is of a process that is at no call, if there is one: else many
 /// processes that wait would each be tried again after each call of another process.
-fn any_turn(core: &Core, random: &mut Random, is_in_vain: bool) -> Option<Turn> {
+fn any_turn(core: &Core, random: &mut Random, is_in_vain: bool) -> Option<(u32, u32)> {
     let is_in_vain = is_in_vain && count_drawn(core, true) > 0;
     let pid = drawn(
         core,
@@ -116,8 +113,8 @@ impl Chooser {
         self.left = 0;
     }
 
-    /// The next turn. None if no process may go on.
-    pub fn next(&mut self, core: &Core) -> Option<Turn> {
+    /// The next turn: of which process, and of how many instructions at most. None if no process may go on.
+    pub fn next(&mut self, core: &Core) -> Option<(u32, u32)> {
         if let Some(random) = &mut self.random {
             let is_in_vain = matches!(core.standing(self.last), Ok(Standing::Waits));
             let (pid, most) = any_turn(core, random, is_in_vain)?;

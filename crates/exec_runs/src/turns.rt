@@ -53,19 +53,6 @@ impl Turns {
         self.ending.unwrap_or(Ending::Over)
     }
 
-    /// A Turn of at most so many instructions; how the run ends if the limit allows none.
-    fn turn(&mut self, core: &Core, pid: u32, most: u32) -> Result<Event, Ending> {
-        let n = match self.limit {
-            Some(instructions) => {
-                let left = instructions.saturating_sub(core.ran());
-                within(left, most, Ending::Limit { instructions })?
-            }
-            None => most,
-        };
-        self.running = pid;
-        Ok(Event::Turn { pid, n })
-    }
-
     /// The next event of a process: one that ran to a call or a trap enters the kernel, and else one is chosen. How the run ends if
     /// there is none.
     fn next_of_process(&mut self, core: &Core) -> Result<Event, Ending> {
@@ -85,7 +72,15 @@ impl Turns {
         if is_stopped(core, pid) {
             return Ok(Event::Enter { pid });
         }
-        self.turn(core, pid, most)
+        let n = match self.limit {
+            Some(instructions) => {
+                let left = instructions.saturating_sub(core.ran());
+                within(left, most, Ending::Limit { instructions })?
+            }
+            None => most,
+        };
+        self.running = pid;
+        Ok(Event::Turn { pid, n })
     }
 
     /// The next event. None once the run has ended, and all changes are committed.

@@ -1,17 +1,21 @@
 //! Runs of programs for people.
+ghost use Rattle.std.specs.Prelude.{◌≡◌, ◌<◌, ◌≤◌, length, IfOk};
+ghost use Rattle.std.specs.List.{AllByRecursion};
+ghost use Rattle.kernel_model.specs.World.{most_programs, terminal_count};
+
 use crate::exec_outputs::Outputs;
-use crate::executables::programs_in;
 use crate::observing::{Showing, Wanted, both, end};
 use crate::running::{Booted, keep_end, of_run, run_on};
 use command_line::ExecOptions;
+use exec_files::LoadedProgram;
 use exec_records::{Counts, EndedRun, Profile, StepLog, write_json};
 use exec_reports::{CallTrace, Family, print_ending, status_of_run};
 use exec_runs::{Ending, Order, Turns};
 use executor::RunFault;
 use faults::Fault;
-use kernel::Core;
+use kernel::{Core, Program};
 use run_events::run;
-use run_files::{Input, boot_on, of_disk, setup_of, tapes_in};
+use run_files::{Input, boot_on, of_disk, program_in, setup_of, tapes_in};
 use scripts::Setup;
 use std::fs::File;
 use std::io::{BufWriter, Read, Write};
@@ -157,6 +161,28 @@ impl<'a, R: Files<File = File> + AllocGlobal + Threads + Wait + Sync> Execution<
         kept?;
         Ok(status)
     }
+}
+
+/// The programs of files, each with the terminal of its place, and what is known of them.
+fn programs_in<R: Files + AllocGlobal, I: Read>(
+    rt: &R,
+    paths: &[&str],
+    input: &mut Input<'_, I>,
+) -> Result<(Vec<Program>, Vec<LoadedProgram>), Fault>
+    requires few { length paths.now ≤ most_programs }
+    ensures len { IfOk result (λ both. length both.0.items ≡ length paths.now) }
+    ensures terminals { IfOk result (λ both. AllByRecursion (λ p. p.terminal < terminal_count) both.0.items) }
+{
+    let mut programs = Vec::new(rt.alloc());
+    let mut known = Vec::new(rt.alloc());
+    for path in paths {
+        let terminal = programs.len() as u32;
+        let loaded = program_in(rt, path, input)?;
+        let image = loaded.image.try_clone(rt.alloc())?;
+        programs.push(Program { image, terminal })?;
+        known.push(loaded)?;
+    }
+    Ok((programs, known))
 }
 
 /// Reads the programs and the tapes of a run, and boots its core.

@@ -4,7 +4,6 @@
 #![tactic(auto)]
 
 mod exec_outputs;
-mod executables;
 mod executing;
 mod logs;
 mod observing;

@@ -57,17 +57,11 @@ fn diff_logs<R: Files + AllocGlobal, O: Write>(
 ) -> Result<(), Fault> {
     let alloc = rt.alloc();
     let (first, second) = (log_in(rt, paths.first)?, log_in(rt, paths.second)?);
-    let compared = match compare(alloc, first, second) {
-        Ok(compared) => compared,
-        Err((side, error)) => return Err(Fault::from(error).at(alloc, paths.of(side))),
-    };
-    match compared {
-        Compared::NoLog(side) => Err(Fault::from(Refusal::Log).at(alloc, paths.of(side))),
-        Compared::Equal(count) => {
-            writeln!(out, "equal, {count} instructions")?;
-            Ok(())
-        }
-        Compared::Different(difference) => {
+    match compare(alloc, first, second) {
+        Err((side, error)) => Err(Fault::from(error).at(alloc, paths.of(side))),
+        Ok(Compared::NoLog(side)) => Err(Fault::from(Refusal::Log).at(alloc, paths.of(side))),
+        Ok(Compared::Equal(count)) => Ok(writeln!(out, "equal, {count} instructions")?),
+        Ok(Compared::Different(difference)) => {
             difference.print(paths.first, paths.second, out)?;
             if let Some(places) = places {
                 print_places(places, &difference, out)?;

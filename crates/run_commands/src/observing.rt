@@ -4,7 +4,9 @@ use call_forms::Call;
 use call_lines::call_at;
 use command_line::RunNumbers;
 use faults::Fault;
+use formats::Reg;
 use kernel::{Answer, Core, Event};
+use kernel_model::Descriptor;
 use run_events::{Both, EventRecord, Interest, Observer};
 use run_threads::Screen;
 use std::alloc::Global;
@@ -63,20 +65,31 @@ impl<'o, O: Write> Showing<'o, O> {
     }
 }
 
+/// Whether terminals may show more after an event: after a write to one, and after a write of the disk.
+fn may_show(core: &Core, event: Event) -> bool {
+    let Event::Enter { pid } = event else {
+        return matches!(event, Event::Complete { .. });
+    };
+    let Ok(machine) = core.machine(pid) else {
+        return false;
+    };
+    let written = core
+        .tables()
+        .processes
+        .descriptor(pid, machine.reg(Reg::new(10)));
+    call_at(machine) == Some(Call::Write) && matches!(written, Some(Descriptor::Terminal(_)))
+}
+
 impl<O: Write> Observer for Showing<'_, O> {
     type Fault = Fault;
 
     ghost hears = { λ old r new. Unit {0} };
 
-    /// Terminals show more after a write to one, and after a write of the disk.
     fn wants(&self, core: &Core, event: Event) -> Interest {
-        match event {
-            Event::Complete { .. } => Interest::Record,
-            Event::Enter { pid } => match core.machine(pid).map(call_at) {
-                Ok(Some(Call::Write)) => Interest::Record,
-                _ => Interest::Nothing,
-            },
-            _ => Interest::Nothing,
+        if may_show(core, event) {
+            Interest::Record
+        } else {
+            Interest::Nothing
         }
     }
 
