@@ -5,5 +5,5 @@
 mod calls_at;
 mod waits;
 
-pub use calls_at::{call_at, call_text, reply_text};
+pub use calls_at::{call_at, call_text, reply_text, style_of, text_at};
 pub use waits::{Awaited, awaited_at, could_end};

@@ -138,7 +138,6 @@ impl Visitor for Paged<'_> {
     type Fault = Fault;
 
     fn before(&mut self, core: &Core, event: Event) -> Result<(), Fault> {
-        self.family.before(core, event);
         self.before = Some(Before::of(self.alloc, core, event)?);
         Ok(())
     }
