@@ -45,7 +45,7 @@ impl<'a> Source<'a> {
 
     /// The line of this number, from 1. Empty where there is none.
     pub fn line(&self, number: usize) -> &'a str
-        ensures { result.now ≡ get_or (texts self.lines.items) (number - 1) [] }
+        ensures { result.now ≡ get_or (texts self.now.lines.items) (number - 1) [] }
     {
         self.lines
             .get(number.saturating_sub(1))
