@@ -5,6 +5,7 @@ use formats::Reg;
 use kernel_model::Request;
 use machine::Machine;
 use machine_model::Stop;
+use run_events::EventRecord;
 use std::alloc::{AllocError, Global};
 
 /// A request with the bytes that the call reads of its process, if it reads some and may: of one length so many, and of each of two names
@@ -68,8 +69,26 @@ pub fn call_text(alloc: Global, machine: &Machine, most: usize) -> Result<String
     }
 }
 
-/// The number with which a machine's call was replied to.
-pub fn reply_text(alloc: Global, machine: &Machine) -> Result<String, AllocError> {
-    let number = machine.reg(Reg::new(10)).cast_signed();
-    format!(in alloc; " = {number}")
+/// The call or the trap of an Enter, as `call_text` has it. Empty of another event.
+pub fn entered_text(
+    alloc: Global,
+    done: &EventRecord<'_>,
+    most: usize,
+) -> Result<String, AllocError> {
+    let Some(site) = done.call_site else {
+        return Ok(String::new(alloc));
+    };
+    if let Stop::Trap(cause) = site.stop {
+        let number = cause.number();
+        return format!(in alloc; "trap {number}");
+    }
+    let Some(request) = done.request else {
+        return Ok(String::new(alloc));
+    };
+    let text = CallText {
+        number: site.number,
+        arguments: site.arguments,
+        style: style_of(request, most),
+    };
+    format!(in alloc; "{text}")
 }

@@ -3,7 +3,7 @@ use call_forms::Call;
 use call_lines::call_at;
 use exec_files::LoadedProgram;
 use faults::Fault;
-use kernel::{Answer, Core, Event};
+use kernel::{Core, Event};
 use run_events::{EventRecord, Interest, Observer, Told};
 use std::alloc::{AllocError, Global};
 
@@ -123,22 +123,6 @@ impl Family {
                 self.forget(pid);
             }
         }
-    }
-
-    /// Nothing is noted before an event.
-    pub fn before(&mut self, _core: &Core, _event: Event) {}
-
-    /// Is told of the event that was applied last, in a run whose events have no records.
-    pub fn after(&mut self, core: &Core, _answer: Answer) -> Result<(), AllocError> {
-        let Some(Event::Enter { pid }) = core.history().last() else {
-            return Ok(());
-        };
-        let has_entered = match core.replies(*pid) {
-            Ok([.., reply]) => reply.has_image(),
-            _ => false,
-        };
-        let is_parent = core.tables().processes.len() > self.runs.len();
-        self.note(*pid, has_entered, is_parent)
     }
 }
 

@@ -6,14 +6,14 @@ ghost use Rattle.run_page.specs.Page.{page_of};
 use crate::boots::BootRecorder;
 use crate::crash::fill_texts;
 use crate::data::{BootData, RunData};
-use crate::deeds::Before;
 use crate::html::write_html;
-use crate::places::Seen;
+use crate::places::{Registers, Seen};
 use exec_reports::Family;
 use faults::Fault;
 use kernel::{Answer, Core, Event, Refused};
 use kernel_model::TERMINALS;
-use scripts::{EventText, Launch, LineAnswer, Step, Visitor, bytes_text, play_all};
+use run_events::{Before, EventRecord, Interest, Observer};
+use scripts::{EventText, Launch, LineAnswer, Step, Visitor, bytes_text, play_all, process_of};
 use std::alloc::{AllocError, Global};
 use std::io::Write;
 use std::mem;
@@ -27,6 +27,21 @@ const MADE: &str = "bench page";
 /// The most events that a page has.
 const MOST_EVENTS: u64 = 4000;
 
+/// What is known before an event: what is noted of the core, and what the registers of the event's process hold.
+#[derive(Drop)]
+struct Pending {
+    event: Event,
+    before: Before,
+    registers: Registers,
+}
+
+fn registers_of(core: &Core, event: Event) -> Registers {
+    match process_of(event).map(|pid| core.machine(pid)) {
+        Some(Ok(machine)) => Registers::of(machine),
+        _ => Registers::zero(),
+    }
+}
+
 /// A script whose run is noted while it is played.
 struct Paged<'l> {
     alloc: Global,
@@ -36,7 +51,7 @@ struct Paged<'l> {
     /// The boot that goes on.
     boot: BootRecorder,
     /// What is known before the event that is to be applied, or was refused.
-    before: Option<Before>,
+    pending: Option<Pending>,
     /// How many events and crashes there were so far, and how many events are left out.
     events: u64,
     left: u64,
@@ -50,7 +65,7 @@ impl Drop for Paged<'_> {
             family: _family,
             boots: _boots,
             boot: _boot,
-            before: _before,
+            pending: _pending,
             events: _,
             left: _,
         } = self;
@@ -76,7 +91,7 @@ impl<'l> Paged<'l> {
             family,
             boots: Vec::new(alloc),
             boot,
-            before: None,
+            pending: None,
             events: 0,
             left: 0,
         })
@@ -109,10 +124,10 @@ impl<'l> Paged<'l> {
     /// Notes the event that was refused last.
     fn push_refused_event(&mut self, why: Refused) -> Result<(), AllocError> {
         let alloc = self.alloc;
-        let Some(before) = mem::replace(&mut self.before, None) else {
+        let Some(pending) = mem::replace(&mut self.pending, None) else {
             return Ok(());
         };
-        let event = EventText(before.event);
+        let event = EventText(pending.event);
         let line = format!(in alloc; "{event}")?;
         self.push_refusal(line, why)
     }
@@ -125,7 +140,7 @@ impl<'l> Paged<'l> {
             family: _family,
             mut boots,
             boot,
-            before: _before,
+            pending: _pending,
             events: _,
             left,
         } = self;
@@ -138,15 +153,20 @@ impl Visitor for Paged<'_> {
     type Fault = Fault;
 
     fn before(&mut self, core: &Core, event: Event) -> Result<(), Fault> {
-        self.before = Some(Before::of(self.alloc, core, event)?);
+        self.pending = Some(Pending {
+            event,
+            before: Before::new(self.alloc, core, event, Interest::Record)?,
+            registers: registers_of(core, event),
+        });
         Ok(())
     }
 
-    fn after(&mut self, core: &Core, _event: Event, answer: Answer) -> Result<(), Fault> {
-        self.family.after(core, answer)?;
-        let Some(before) = mem::replace(&mut self.before, None) else {
+    fn after(&mut self, core: &Core, event: Event, answer: Answer) -> Result<(), Fault> {
+        let Some(pending) = mem::replace(&mut self.pending, None) else {
             return Ok(());
         };
+        let done = EventRecord::of(core, &pending.before, event, answer);
+        self.family.event(core, &done)?;
         if self.is_full() {
             self.left = self.left.saturating_add(1);
             return Ok(());
@@ -156,7 +176,7 @@ impl Visitor for Paged<'_> {
             core,
             family: &self.family,
         };
-        self.boot.push_event(seen, answer, before)
+        self.boot.push_event(seen, &done, &pending.registers)
     }
 
     fn answered(&mut self, _core: &Core, answer: LineAnswer) -> Result<(), Fault> {
