@@ -56,9 +56,11 @@ fn why_of(
     pid: u32,
     standing: Standing,
 ) -> Result<Option<String>, AllocError> {
-    let report = core.machine(pid).map(trap_report);
-    match (standing, report) {
-        (Standing::Ended, Ok(Some(report))) => Ok(Some(format!(in alloc; "{report}")?)),
+    let Ok(machine) = core.machine(pid) else {
+        return Ok(None);
+    };
+    match (standing, trap_report(machine)) {
+        (Standing::Ended, Some(report)) => Ok(Some(format!(in alloc; "{report}")?)),
         (Standing::Waits, _) => {
             let wait = WaitText { core, pid };
             Ok(Some(format!(in alloc; "{wait}")?))

@@ -5,10 +5,10 @@ use faults::{Fault, write_line};
 use kernel::{Core, Event};
 use kernel_model::Request;
 use machine_model::{Reply, Stop};
-use run_events::{EventRecord, Interest, Observer, Told};
+use run_events::{CallSite, EventRecord, Interest, Observer, Told};
 use std::alloc::Global;
 use std::fmt;
-use std::io::Write;
+use std::io::{self, Write};
 
 /// The most bytes that are told of what is written or read, or of a name.
 const MOST_BYTES: usize = 32;
@@ -47,7 +47,7 @@ fn word_at(bytes: &[u8], at: usize) -> u32 {
     }
 }
 
-impl Outcome<'_> {
+impl<'a> Outcome<'a> {
     /// The name of the error that the call was replied, if it was one.
     fn error(&self) -> Option<&'static str> {
         match self.told {
@@ -58,7 +58,7 @@ impl Outcome<'_> {
 
     /// A call that was refused, and shows no bytes, is written as its registers have it: else the address or the length that was refused
     /// might be left out.
-    fn style(&self) -> Style<'_> {
+    fn style(&self) -> Style<'a> {
         match self.request.map(|request| style_of(request, MOST_BYTES)) {
             Some(Style::Bytes { bytes: None, .. }) if self.error().is_some() => Style::Registers,
             Some(style) => style,
@@ -86,6 +86,22 @@ impl Outcome<'_> {
             Some(Request::Pipe { .. }) => write!(f, " [{first}, {second}]"),
             Some(Request::Wait { at, .. }) if *at != 0 => write!(f, " [{first}]"),
             _ => Ok(()),
+        }
+    }
+
+    fn print<E: Write>(self, pid: u32, site: CallSite, err: &mut E) -> io::Result<()> {
+        let arguments = site.arguments;
+        let call = CallText {
+            number: site.number,
+            arguments,
+            style: self.style(),
+        };
+        match site.stop {
+            Stop::Trap(cause) => {
+                let number = cause.number();
+                write_line(err, format_args!("process {pid}: trap {number}{self}"))
+            }
+            _ => write_line(err, format_args!("process {pid}: {call}{self}")),
         }
     }
 }
@@ -145,20 +161,6 @@ impl<E: Write> Observer for CallTrace<'_, E> {
             request: done.request,
             told: done.told,
         };
-        if let Stop::Trap(cause) = site.stop {
-            let number = cause.number();
-            write_line(
-                self.err,
-                format_args!("process {pid}: trap {number}{outcome}"),
-            )?;
-            return Ok(());
-        }
-        let call = CallText {
-            number: site.number,
-            arguments: site.arguments,
-            style: outcome.style(),
-        };
-        write_line(self.err, format_args!("process {pid}: {call}{outcome}"))?;
-        Ok(())
+        Ok(outcome.print(pid, site, self.err)?)
     }
 }

@@ -9,14 +9,17 @@ use trap_reports::trap_report;
 /// Prints of a process that ended by a trap what that was about, and nothing of an `exit`. Of an end that is held back it says that alone.
 fn print_end<E: Write>(core: &Core, stand: StandText<'_, '_>, err: &mut E) -> io::Result<()> {
     let pid = stand.pid;
-    match (core.ended(pid), core.machine(pid).map(trap_report)) {
+    let Ok(machine) = core.machine(pid) else {
+        return Ok(());
+    };
+    match (core.ended(pid), trap_report(machine)) {
         (Ok(None), _) => write_line(
             err,
             format_args!(
                 "bench: process {pid} has ended, which is held back: it rests on changes that are not on the disk"
             ),
         ),
-        (_, Ok(Some(report))) => {
+        (_, Some(report)) => {
             write_line(err, format_args!("bench: process {pid}: {report}{stand}"))
         }
         _ => Ok(()),
