@@ -76,12 +76,14 @@ impl BootRecorder {
 
     /// Notes a process that is new, and its parent, 0 at the boot.
     fn note_process(&mut self, seen: Seen<'_>, pid: u32, parent: u32) -> Result<(), AllocError> {
-        Ok(self.processes.push(ProcessData {
-            p: pid,
-            e: seen.core.history().len() as u64,
-            parent,
-            at: place_of(self.alloc, seen, pid, &Registers::zero())?,
-        })?)
+        Ok(
+            self.processes.push(ProcessData {
+                p: pid,
+                e: seen.core.history().len() as u64,
+                parent,
+                at: place_of(self.alloc, seen, pid, &Registers::zero())?,
+            })?,
+        )
     }
 
     /// Notes the change that an event made, if it made one.
@@ -89,7 +91,8 @@ impl BootRecorder {
         let Some(change) = done.change else {
             return Ok(());
         };
-        self.changes.push(change_of(self.alloc, core, done, change)?)?;
+        self.changes
+            .push(change_of(self.alloc, core, done, change)?)?;
         self.versions.push(self.alloc, core.tables().files.list())
     }
 

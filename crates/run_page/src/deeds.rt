@@ -44,11 +44,7 @@ fn bytes_read<'a>(request: Option<&Request>, reply: &'a Reply) -> &'a [u8] {
     }
 }
 
-fn entered(
-    alloc: Global,
-    core: &Core,
-    done: &EventRecord<'_>,
-) -> Result<EventDeed, AllocError> {
+fn entered(alloc: Global, core: &Core, done: &EventRecord<'_>) -> Result<EventDeed, AllocError> {
     let call = entered_text(alloc, done, MOST_BYTES)?;
     Ok(match done.told {
         Some(Told::Reply(reply)) => EventDeed::Call {
