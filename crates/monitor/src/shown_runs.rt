@@ -4,6 +4,7 @@ use exec_reports::{Family, print_ending};
 use exec_runs::{Ending, Order, Turns};
 use faults::Fault;
 use kernel::Core;
+use run_events::{Nobody, run};
 use run_files::Subject;
 use scripts::{Launch, Step};
 use std::alloc::Global;
@@ -18,20 +19,15 @@ pub struct ShownRun {
 }
 
 /// Runs a core by turns, as `exec` does, to its end or until so many instructions were run.
-fn run_to(core: &mut Core, limit: u64) -> Result<Ending, Fault> {
+fn run_to(alloc: Global, core: &mut Core, limit: u64) -> Result<Ending, Fault> {
     let mut turns = Turns::new(Order {
         seed: None,
         limit: Some(limit),
     });
-    for _ in 0..u64::MAX {
-        let Some(event) = turns.next(core) else {
-            break;
-        };
-        if core.apply(event).is_err() {
-            return Err(Fault::OutOfMemory);
-        }
+    match run(alloc, core, &mut turns, &mut Nobody)? {
+        Some(_) => Err(Fault::OutOfMemory),
+        None => Ok(turns.ending()),
     }
-    Ok(turns.ending())
 }
 
 impl ShownRun {
@@ -51,7 +47,7 @@ impl ShownRun {
         let mut family = Family::new(alloc, programs, launch.programs().len())?;
         if steps.is_empty() {
             let mut core = launch.boot(alloc, None)?;
-            let ending = run_to(&mut core, limit)?;
+            let ending = run_to(alloc, &mut core, limit)?;
             steps = steps_of(alloc, core.history())?;
             if ending != Ending::Over {
                 family.forget_executed(&core);
