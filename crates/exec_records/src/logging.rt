@@ -42,16 +42,15 @@ impl<W: Write> Observer for StepLog<'_, W> {
         if done.process() != self.pid {
             return Ok(());
         }
-        let written = match (done.answer, done.machine, done.call_site, done.told) {
-            (Answer::Ran { count, .. }, Some(machine), ..) => {
-                let mut machine = machine.try_clone(self.alloc)?;
-                write_steps(&mut machine, u64::from(count), &mut self.out)
-            }
-            (_, _, Some(site), Some(Told::Reply(reply))) => {
-                write_call(site.pc, reply.a0(), &mut self.out)
-            }
-            _ => Ok(()),
-        };
-        at_path(self.alloc, self.path, written)
+        if let (Answer::Ran { count, .. }, Some(machine)) = (done.answer, done.machine) {
+            let mut machine = machine.try_clone(self.alloc)?;
+            let written = write_steps(&mut machine, u64::from(count), &mut self.out);
+            at_path(self.alloc, self.path, written)?;
+        }
+        if let (Some(site), Some(Told::Reply(reply))) = (done.call_site, done.told) {
+            let written = write_call(site.pc, reply.a0(), &mut self.out);
+            at_path(self.alloc, self.path, written)?;
+        }
+        Ok(())
     }
 }
