@@ -85,9 +85,10 @@ pub fn entered_text(
     let Some(request) = done.request else {
         return Ok(String::new(alloc));
     };
+    let arguments = site.arguments;
     let text = CallText {
         number: site.number,
-        arguments: site.arguments,
+        arguments,
         style: style_of(request, most),
     };
     format!(in alloc; "{text}")

@@ -50,10 +50,10 @@ impl Taken {
             read: Vec::new(rt.alloc()),
             written: Vec::new(rt.alloc()),
         };
-        for path in options.run.images.as_slice() {
+        for path in options.run.programs.paths.as_slice() {
             taken.push_read(rt, *path)?;
         }
-        for path in options.run.tapes.as_slice() {
+        for path in options.run.programs.tapes.as_slice() {
             taken.push_read(rt, path.unwrap_or("-"))?;
         }
         if let Some(path) = options.run.disk {

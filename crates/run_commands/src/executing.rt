@@ -1,21 +1,16 @@
 //! Runs of programs for people.
-ghost use Rattle.std.specs.Prelude.{◌≡◌, ◌<◌, ◌≤◌, length, IfOk};
-ghost use Rattle.std.specs.List.{AllByRecursion};
-ghost use Rattle.kernel_model.specs.World.{most_programs, terminal_count};
-
 use crate::exec_outputs::Outputs;
 use crate::observing::{Showing, both};
 use crate::running::{Booted, keep_end, of_run, run_on};
 use command_line::ExecOptions;
-use exec_files::LoadedProgram;
 use exec_records::{Counts, EndedRun, Profile, StepLog, write_json};
 use exec_reports::{CallTrace, Family, print_ending, status_of_run};
 use exec_runs::{Ending, Order, Turns};
 use executor::RunFault;
 use faults::Fault;
-use kernel::{Core, Program};
+use kernel::Core;
 use run_events::run;
-use run_files::{Input, boot_on, launch_of, of_disk, program_in, tapes_in};
+use run_files::{Input, Subject, boot_on, of_disk, subject_in};
 use scripts::Launch;
 use std::fs::File;
 use std::io::{BufWriter, Read, Write};
@@ -157,28 +152,6 @@ impl<'a, R: Files<File = File> + AllocGlobal + Threads + Wait + Sync> Execution<
     }
 }
 
-/// The programs of files, each with the terminal of its place, and what is known of them.
-fn programs_in<R: Files + AllocGlobal, I: Read>(
-    rt: &R,
-    paths: &[&str],
-    input: &mut Input<'_, I>,
-) -> Result<(Vec<Program>, Vec<LoadedProgram>), Fault>
-    requires few { length paths.now ≤ most_programs }
-    ensures len { IfOk result (λ both. length both.0.items ≡ length paths.now) }
-    ensures terminals { IfOk result (λ both. AllByRecursion (λ p. p.terminal < terminal_count) both.0.items) }
-{
-    let mut programs = Vec::new(rt.alloc());
-    let mut known = Vec::new(rt.alloc());
-    for path in paths {
-        let terminal = programs.len() as u32;
-        let loaded = program_in(rt, path, input)?;
-        let image = loaded.image.try_clone(rt.alloc())?;
-        programs.push(Program { image, terminal })?;
-        known.push(loaded)?;
-    }
-    Ok((programs, known))
-}
-
 /// Reads the programs and the tapes of a run, and boots its core.
 fn prepare<'a, R: Files<File = File> + AllocGlobal, I: Read>(
     rt: &'a R,
@@ -186,23 +159,26 @@ fn prepare<'a, R: Files<File = File> + AllocGlobal, I: Read>(
     input: &mut I,
 ) -> Result<(Execution<'a, R>, run_files::Booted), Fault> {
     let alloc = rt.alloc();
-    let mut input = Input::new(input);
-    let (programs, loaded) = programs_in(rt, options.run.images.as_slice(), &mut input)?;
-    let tapes = tapes_in(rt, options.run.tapes.as_slice(), &mut input)?;
-    let count = loaded.len();
-    let mut launch = None;
-    if options.record.is_some() || options.picture.is_some() {
-        launch = Some(launch_of(alloc, loaded.as_slice(), tapes.as_slice())?);
-    }
+    let subject = subject_in(rt, &options.run.programs, &mut Input::new(input))?;
+    subject.test_disk(alloc, options.run.disk)?;
+    let Subject {
+        launch,
+        steps: _steps,
+        programs,
+    } = subject;
+    let count = launch.programs().len();
+    let family = Family::new(alloc, programs, count)?;
+    let profile = options.tells_profile.then_some(Profile::new(alloc, count)?);
+    let booted = boot_on(rt, &options.run, &launch)?;
+    let is_kept = options.record.is_some() || options.picture.is_some();
     let execution = Execution {
         rt,
         options,
-        family: Family::new(alloc, loaded, count)?,
+        family,
         counts: options.is_json.then_some(Counts::new(alloc)),
-        profile: options.tells_profile.then_some(Profile::new(alloc, count)?),
-        launch,
+        profile,
+        launch: is_kept.then_some(launch),
     };
-    let booted = boot_on(rt, &options.run, programs, tapes)?;
     Ok((execution, booted))
 }
 

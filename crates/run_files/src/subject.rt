@@ -10,8 +10,9 @@ use exec_files::{LoadedProgram, program_of, refused};
 use faults::{Fault, Refusal, Role};
 use host_files::{FileKind, disk_or_zeros, kind_of, text_of_file};
 use kernel::{Core, SimDisk};
+use machine_model::Image;
 use scripts::{Launch, Script, Step};
-use std::alloc::Global;
+use std::alloc::{AllocError, Global};
 use std::io::Read;
 use std::rt::Files;
 
@@ -25,19 +26,20 @@ pub struct Subject {
     pub programs: Vec<LoadedProgram>,
 }
 
-/// A launch of programs with these tapes, in order. There are 1 to 8 programs, which the command line sees to.
-pub fn launch_of(
-    alloc: Global,
-    programs: &[LoadedProgram],
-    tapes: &[Bytes],
-) -> Result<Launch, Fault> {
-    let [first, others @ ..] = programs else {
+/// A launch of these images with these tapes, in order. There are 1 to 8 images, which the command line sees to.
+pub fn launch_of(alloc: Global, images: Vec<Image>, tapes: &[Bytes]) -> Result<Launch, Fault> {
+    let mut launch = None;
+    for image in images {
+        match &mut launch {
+            None => launch = Some(Launch::of_image(alloc, image)?),
+            Some(launch) => {
+                launch.push_image(image)?;
+            }
+        }
+    }
+    let Some(mut launch) = launch else {
         return Err(Fault::from(Refusal::NoProgram));
     };
-    let mut launch = Launch::of_image(alloc, first.image.try_clone(alloc)?)?;
-    for program in others {
-        launch.push_image(program.image.try_clone(alloc)?)?;
-    }
     let mut number = 0u32;
     for tape in tapes {
         if !tape.as_slice().is_empty() {
@@ -48,6 +50,15 @@ pub fn launch_of(
         number = number.saturating_add(1);
     }
     Ok(launch)
+}
+
+/// Copies of the images of programs.
+fn images_of(alloc: Global, programs: &[LoadedProgram]) -> Result<Vec<Image>, AllocError> {
+    let mut images = Vec::new(alloc);
+    for program in programs {
+        images.push(program.image.try_clone(alloc)?)?;
+    }
+    Ok(images)
 }
 
 /// Refuses tapes beside a script.
@@ -107,8 +118,9 @@ pub fn subject_in<R: Files + AllocGlobal, I: Read>(
         programs.push(program_of(alloc, name, file)?)?;
     }
     let tapes = tapes_in(rt, options.tapes.as_slice(), input)?;
+    let images = images_of(alloc, programs.as_slice())?;
     Ok(Subject {
-        launch: launch_of(alloc, programs.as_slice(), tapes.as_slice())?,
+        launch: launch_of(alloc, images, tapes.as_slice())?,
         steps: Vec::new(alloc),
         programs,
     })
@@ -137,6 +149,17 @@ fn device_in<R: Files + AllocGlobal>(rt: &R, path: Option<&str>) -> Result<Optio
 }
 
 impl Subject {
+    /// Refuses a disk that is given beside a script, which has its own.
+    pub fn test_disk(&self, alloc: Global, path: Option<&str>) -> Result<(), Fault> {
+        match path {
+            Some(path) if self.programs.is_empty() => {
+                let why = "a script has a disk of its own; --disk is for programs";
+                Err(refused(alloc, path, why))
+            }
+            _ => Ok(()),
+        }
+    }
+
     fn boot<R: Files + AllocGlobal>(&self, rt: &R, disk: Option<&str>) -> Result<Core, Fault> {
         let device = device_in(rt, disk)?;
         self.launch.boot(rt.alloc(), device)
@@ -149,14 +172,7 @@ impl Subject {
         rt: &R,
         disk: Option<&str>,
     ) -> Result<Core, Fault> {
-        let alloc = rt.alloc();
-        match disk {
-            Some(path) if self.programs.is_empty() => Err(refused(
-                alloc,
-                path,
-                "a script has a disk of its own; --disk is for programs",
-            )),
-            disk => of_disk(alloc, disk, self.boot(rt, disk)),
-        }
+        self.test_disk(rt.alloc(), disk)?;
+        of_disk(rt.alloc(), disk, self.boot(rt, disk))
     }
 }

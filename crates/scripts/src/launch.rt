@@ -69,7 +69,8 @@ fn programs_of(alloc: Global, programs: &[LaunchProgram]) -> Result<Vec<Program>
 /// The disk that a crash left, or else one that holds these files.
 fn disk_of(alloc: Global, left: Option<SimDisk>, files: &FileList) -> Result<SimDisk, Fault>
     requires { IfSome left (λ device. is_quiet device ≡ true) }
-    ensures { IfOk result (λ device. is_quiet device ≡ true) }
+    ensures quiet { IfOk result (λ device. is_quiet device ≡ true) }
+    ensures left { IfSome left (λ device. IfOk result (λ it. it ≡ device)) }
 {
     match left {
         Some(device) => Ok(device),

@@ -6,4 +6,4 @@ use Rattle.kernel_step.specs.declared.booting.Program.{Program}
 use Rattle.scripts.proofs.launch.programs_of.Given as goal
 
 abbrev pub invariant-loop-program : goal.invariant-loop-program
-invariant-loop-program g l = (length l.booted.items ≡ l.program-index) × AllByRecursion (λ (p : Program). p.terminal < terminal_count) l.booted.items
+invariant-loop-program l = (length l.booted.items ≡ l.program-index) × AllByRecursion (λ (p : Program). p.terminal < terminal_count) l.booted.items
