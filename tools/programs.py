@@ -114,5 +114,5 @@ def is_newer(crate, start):
     return False
 
 
-WHOLE = Program("bench", "the whole program", "70 minutes on four processors, 130 on two", "four to six minutes", 6, "crash_recoveries")
-SMALL = Program("bench_small", "the small program", "35 minutes on four processors, 50 on two", "one to two minutes", 3, "kernel_step")
+WHOLE = Program("bench", "the whole program", "50 minutes on four processors, 90 on two", "four to six minutes", 6, "crash_recoveries")
+SMALL = Program("bench_small", "the small program", "25 minutes on four processors, 35 on two", "one to two minutes", 3, "kernel_step")

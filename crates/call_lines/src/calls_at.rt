@@ -5,11 +5,12 @@ use formats::Reg;
 use kernel_model::Request;
 use machine::Machine;
 use machine_model::Stop;
+use run_events::EventRecord;
 use std::alloc::{AllocError, Global};
 
-/// The bytes that a call reads of its process, if it reads some and may, and how many of each length are shown: of one so many, and of
-/// each of two names a little more than half as many.
-fn bytes_of(request: &Request, most: usize) -> (Option<&[u8]>, usize) {
+/// A request with the bytes that the call reads of its process, if it reads some and may: of one length so many, and of each of two names
+/// a little more than half as many.
+pub fn style_of(request: &Request, most: usize) -> Style<'_> {
     let (bytes, most) = match request {
         Request::Write { bytes, .. } => (bytes, most),
         Request::Open { name, .. } => (name, most),
@@ -25,12 +26,13 @@ fn bytes_of(request: &Request, most: usize) -> (Option<&[u8]>, usize) {
         | Request::GetPid
         | Request::Seek { .. }
         | Request::Sync
-        | Request::Unknown => return (None, most),
+        | Request::Unknown => return Style::Bytes { bytes: None, most },
     };
-    (bytes.as_ref().map(|bytes| bytes.as_slice()), most)
+    let bytes = bytes.as_ref().map(|bytes| bytes.as_slice());
+    Style::Bytes { bytes, most }
 }
 
-/// The call at which a machine stands. None where it stands at none, or its number means none.
+/// The call at which a machine stands. None if it stands at none, or no call has its number.
 pub fn call_at(machine: &Machine) -> Option<Call> {
     match machine.stopped() {
         Some(Stop::Call) => Call::of(machine.reg(Reg::new(17))),
@@ -38,27 +40,27 @@ pub fn call_at(machine: &Machine) -> Option<Call> {
     }
 }
 
-/// The call at which a machine stands, as a text.
-fn request_text(alloc: Global, machine: &Machine, most: usize) -> Result<String, AllocError> {
-    let request = request_of(alloc, machine)?;
-    let (bytes, most) = bytes_of(&request, most);
-    let text = CallText {
+/// The call at which a machine stands, written in this style.
+pub fn text_at<'a>(machine: &Machine, style: Style<'a>) -> CallText<'a> {
+    CallText {
         number: machine.reg(Reg::new(17)),
         arguments: [
             machine.reg(Reg::new(10)),
             machine.reg(Reg::new(11)),
             machine.reg(Reg::new(12)),
         ],
-        style: Style::Bytes { bytes, most },
-    };
-    format!(in alloc; "{text}")
+        style,
+    }
 }
 
-/// What the call or the trap says at which a machine stands, with so many bytes of what is written or of a name. Nothing where it
-/// stands at neither.
+/// The call or the trap at which a machine stands, with so many bytes of what is written or of a name. Empty if it stands at neither.
 pub fn call_text(alloc: Global, machine: &Machine, most: usize) -> Result<String, AllocError> {
     match machine.stopped() {
-        Some(Stop::Call) => request_text(alloc, machine, most),
+        Some(Stop::Call) => {
+            let request = request_of(alloc, machine)?;
+            let text = text_at(machine, style_of(&request, most));
+            format!(in alloc; "{text}")
+        }
         Some(Stop::Trap(cause)) => {
             let number = cause.number();
             format!(in alloc; "trap {number}")
@@ -67,8 +69,27 @@ pub fn call_text(alloc: Global, machine: &Machine, most: usize) -> Result<String
     }
 }
 
-/// The number with which a machine's call was replied to.
-pub fn reply_text(alloc: Global, machine: &Machine) -> Result<String, AllocError> {
-    let number = machine.reg(Reg::new(10)).cast_signed();
-    format!(in alloc; " = {number}")
+/// The call or the trap of an Enter, as `call_text` has it. Empty of another event.
+pub fn entered_text(
+    alloc: Global,
+    done: &EventRecord<'_>,
+    most: usize,
+) -> Result<String, AllocError> {
+    let Some(site) = done.call_site else {
+        return Ok(String::new(alloc));
+    };
+    if let Stop::Trap(cause) = site.stop {
+        let number = cause.number();
+        return format!(in alloc; "trap {number}");
+    }
+    let Some(request) = done.request else {
+        return Ok(String::new(alloc));
+    };
+    let arguments = site.arguments;
+    let text = CallText {
+        number: site.number,
+        arguments,
+        style: style_of(request, most),
+    };
+    format!(in alloc; "{text}")
 }

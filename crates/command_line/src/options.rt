@@ -101,16 +101,15 @@ pub struct RunNumbers {
 #[derive(Drop)]
 pub struct RunOptions<'a> {
     pub numbers: RunNumbers,
+    pub programs: ProgramOptions<'a>,
     pub disk: Option<&'a str>,
     pub is_durable: bool,
-    pub tapes: TapePaths<'a>,
-    pub images: ImagePaths<'a>,
     pub status: Option<u32>,
 }
 
 #[derive(Drop)]
 pub struct ExecOptions<'a> {
-    /// What it has in common with `run`; the images are programs of any kind.
+    /// What it has in common with `run`, which takes images alone.
     pub run: RunOptions<'a>,
     /// Whether workers run it, in threads.
     pub is_threaded: bool,

@@ -36,7 +36,7 @@ pub const COMMANDS: &str =
   --tape-of <T=FILE>.. a number from 0 to 7, '=' and a file: what the program of terminal T may read; may be given for each T
   --term <T> 0..7 [0]: the terminal that is printed, 0 to 7
   --all-terms: print all terminals, each part after a line that names its terminal
-  PROGRAM.. program: the files of 1 to 8 programs, for the terminals 0, 1, ..
+  PROGRAM.. program: the files of 1 to 8 programs, for the terminals 0, 1, ..; or a script, whose set-up lines count
   --all-terms [cannot be used with] --term
   --durable [cannot be used with] --limit --seed --record --picture --log --calls --json --profile
   --disk [cannot be used with] --record --picture

@@ -157,13 +157,11 @@ fn run_options<'a>(
     programs: ProgramOptions<'a>,
 ) -> Option<RunOptions<'a>> {
     let numbers = run_numbers(matches)?;
-    let ProgramOptions { paths, tapes } = programs;
     Some(RunOptions {
         numbers,
+        programs,
         disk: matches.get_str("disk"),
         is_durable: matches.get_flag("durable"),
-        tapes,
-        images: paths,
         status: matches.get_one("status"),
     })
 }

@@ -9,10 +9,9 @@ use crate::outcome::outcome_of;
 use crate::passed_over::PassedOver;
 use faults::{Fault, Fill};
 use kernel::{Answer, Core, Event, SimDisk};
-use scripts::{Setup, Visitor, process_of};
+use scripts::{Launch, Visitor, process_of};
 use std::alloc::Global;
 use std::io::Write;
-use std::rt::Files;
 
 /// The lines of the outcomes that are expected, if any are given.
 fn expected_of(alloc: Global, expected: Option<&str>) -> Result<Option<Vec<&str>>, Fault> {
@@ -24,9 +23,9 @@ fn expected_of(alloc: Global, expected: Option<&str>) -> Result<Option<Vec<&str>
 
 /// The visitor that tries crashes while a run is played.
 #[derive(Drop)]
-pub struct Explorer<'r, 's, 'e, 'o, R, O> {
-    rt: &'r R,
-    setup: &'s mut Setup,
+pub struct Explorer<'l, 'e, 'o, O> {
+    alloc: Global,
+    launch: &'l Launch,
     /// How many boots there were.
     boots: u64,
     findings: Findings<'e>,
@@ -34,20 +33,20 @@ pub struct Explorer<'r, 's, 'e, 'o, R, O> {
     out: &'o mut O,
 }
 
-impl<'r, 's, 'e, 'o, R: Files + AllocGlobal, O: Write> Explorer<'r, 's, 'e, 'o, R, O> {
+impl<'l, 'e, 'o, O: Write> Explorer<'l, 'e, 'o, O> {
     /// Before the first boot. Reads the lines of the outcomes that are expected, if any are given.
     pub fn new(
-        rt: &'r R,
-        setup: &'s mut Setup,
+        alloc: Global,
+        launch: &'l Launch,
         expected: Option<&'e str>,
         out: &'o mut O,
-    ) -> Result<Explorer<'r, 's, 'e, 'o, R, O>, Fault> {
-        let expected = expected_of(rt.alloc(), expected)?;
+    ) -> Result<Explorer<'l, 'e, 'o, O>, Fault> {
+        let expected = expected_of(alloc, expected)?;
         Ok(Explorer {
-            rt,
-            setup,
+            alloc,
+            launch,
             boots: 0,
-            findings: Findings::new(rt.alloc(), expected),
+            findings: Findings::new(alloc, expected),
             passed_over: PassedOver::NONE,
             out,
         })
@@ -75,8 +74,8 @@ impl<'r, 's, 'e, 'o, R: Files + AllocGlobal, O: Write> Explorer<'r, 's, 'e, 'o, 
     /// Finds what a crash with this fill would leave. The core itself goes on.
     fn try_crash(&mut self, core: &Core, moment: Moment, fill: Fill) -> Result<(), Fault> {
         let left = core.after_crash(fill.bytes())?;
-        let next = self.setup.boot(self.rt, Some(left))?;
-        let alloc = self.rt.alloc();
+        let alloc = self.alloc;
+        let next = self.launch.boot(alloc, Some(left))?;
         let outcome = outcome_of(alloc, next.boot_files())?;
         self.findings
             .add(alloc, moment, fill, outcome.as_str(), self.out)
@@ -95,14 +94,14 @@ impl<'r, 's, 'e, 'o, R: Files + AllocGlobal, O: Write> Explorer<'r, 's, 'e, 'o, 
     fn boot(&mut self, left: Option<SimDisk>) -> Result<Core, Fault>
         requires { IfSome left (λ device. is_quiet device ≡ true) }
     {
-        let core = self.setup.boot(self.rt, left)?;
+        let core = self.launch.boot(self.alloc, left)?;
         self.boots = self.boots.saturating_add(1);
         self.try_crashes(&core)?;
         Ok(core)
     }
 }
 
-impl<R: Files + AllocGlobal, O: Write> Visitor for Explorer<'_, '_, '_, '_, R, O> {
+impl<O: Write> Visitor for Explorer<'_, '_, '_, O> {
     type Fault = Fault;
 
     /// Tries crashes after each event of the disk. No other event changes the disk or its writes in flight.

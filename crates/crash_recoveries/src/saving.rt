@@ -4,7 +4,8 @@ use faults::Fault;
 use host_files::write_file;
 use kernel::{Core, Event};
 use recovery_runs::{Failure, RecoveryProgram};
-use scripts::{EventText, Setup, write_setup};
+use scripts::{EventText, Launch, write_launch};
+use std::alloc::Global;
 use std::io::Write;
 use std::rt::Files;
 
@@ -18,14 +19,14 @@ fn push_events(script: &mut Vec<u8>, events: &[Event]) -> Result<(), Fault> {
 }
 
 /// The script of the run up to the crash, which ends with what was shown, and with bench's own crash.
-fn run_script<R: AllocGlobal>(
-    rt: &R,
-    setup: &Setup,
+fn run_script(
+    alloc: Global,
+    launch: &Launch,
     failure: &Failure,
     played: &str,
 ) -> Result<Vec<u8>, Fault> {
-    let mut script = Vec::new(rt.alloc());
-    write_setup(rt.alloc(), setup, &mut script)?;
+    let mut script = Vec::new(alloc);
+    write_launch(alloc, launch, &mut script)?;
     script.extend_from_slice(played.as_bytes())?;
     writeln!(script, "shown 0")?;
     if !failure.point.place.is_by_rule() {
@@ -36,9 +37,9 @@ fn run_script<R: AllocGlobal>(
 }
 
 /// Appends the lines of a recovery that was just booted up to a crash of it. Gives the core after that.
-fn push_crashed<R: Files + AllocGlobal>(
-    rt: &R,
-    setup: &mut Setup,
+fn push_crashed(
+    alloc: Global,
+    launch: &Launch,
     core: Core,
     point: &CrashPoint,
     limit: u64,
@@ -49,32 +50,32 @@ fn push_crashed<R: Files + AllocGlobal>(
     push_events(script, core.history())?;
     let fill = point.fill();
     writeln!(script, "crash {fill}")?;
-    setup.boot(rt, Some(core.halt(fill.bytes())))
+    launch.boot(alloc, Some(core.halt(fill.bytes())))
 }
 
 /// Appends the lines of the recoveries that crashed.
-fn push_chain<R: Files + AllocGlobal>(
-    rt: &R,
+fn push_chain(
+    alloc: Global,
     limit: u64,
-    failure: &mut Failure,
+    failure: &Failure,
     script: &mut Vec<u8>,
 ) -> Result<(), Fault> {
-    let mut core = failure.setup.boot(rt, None)?;
+    let mut core = failure.launch.boot(alloc, None)?;
     for point in &failure.chain {
-        core = push_crashed(rt, &mut failure.setup, core, point, limit, script)?;
+        core = push_crashed(alloc, &failure.launch, core, point, limit, script)?;
     }
     Ok(())
 }
 
 /// The script of the recovery, and of its crashes before.
-fn recovery_script<R: Files + AllocGlobal>(
-    rt: &R,
+fn recovery_script(
+    alloc: Global,
     program: &RecoveryProgram,
-    failure: &mut Failure,
+    failure: &Failure,
 ) -> Result<Vec<u8>, Fault> {
-    let mut script = Vec::new(rt.alloc());
-    write_setup(rt.alloc(), &failure.setup, &mut script)?;
-    push_chain(rt, program.limit, failure, &mut script)?;
+    let mut script = Vec::new(alloc);
+    write_launch(alloc, &failure.launch, &mut script)?;
+    push_chain(alloc, program.limit, failure, &mut script)?;
     push_events(&mut script, failure.core.history())?;
     writeln!(script, "shown 0")?;
     Ok(script)
@@ -96,13 +97,13 @@ fn write<R: Files + AllocGlobal>(
 pub fn save<R: Files + AllocGlobal>(
     rt: &R,
     folder: &str,
-    setup: &Setup,
+    launch: &Launch,
     program: &RecoveryProgram,
-    failure: &mut Failure,
+    failure: &Failure,
     played: &str,
 ) -> Result<(), Fault> {
-    let run = run_script(rt, setup, failure, played)?;
-    let recovery = recovery_script(rt, program, failure)?;
+    let run = run_script(rt.alloc(), launch, failure, played)?;
+    let recovery = recovery_script(rt.alloc(), program, failure)?;
     write(rt, folder, "run.script", run.as_slice())?;
     write(rt, folder, "recovery.script", recovery.as_slice())
 }

@@ -13,7 +13,7 @@ use faults::Fault;
 use kernel::Core;
 use progress::Progress;
 use recovery_runs::{Effort, Failure, Part, Recovery, Tally, Tester};
-use scripts::Setup;
+use scripts::Launch;
 use std::alloc::{AllocError, Global};
 use std::io::Write;
 use std::rt::Files;
@@ -23,7 +23,7 @@ use std::{fmt, io};
 /// What is run, and how.
 #[derive(Drop)]
 pub struct Subject<'a> {
-    pub setup: &'a mut Setup,
+    pub launch: &'a Launch,
     pub course: &'a Course,
 }
 
@@ -100,13 +100,13 @@ fn parted(done: Result<RunEnd, Stop>) -> (Result<Ending, Stop>, Option<Core>) {
     }
 }
 
-fn run_by_bench<R: Files + AllocGlobal + Threads + Sync, T: Taker>(
+fn run_by_bench<R: AllocGlobal + Threads + Sync, T: Taker>(
     rt: &R,
     subject: Subject<'_>,
     taker: &mut T,
 ) -> TriedRun {
-    let Subject { setup, course } = subject;
-    let mut trier = Trier::new(rt, setup);
+    let Subject { launch, course } = subject;
+    let mut trier = Trier::new(rt, launch);
     let (done, core) = parted(trier.run(course, taker));
     let untried = Untried::Passed(trier.passed_over);
     TriedRun {
@@ -117,14 +117,14 @@ fn run_by_bench<R: Files + AllocGlobal + Threads + Sync, T: Taker>(
     }
 }
 
-fn run_by_rule<R: Files + AllocGlobal + Threads + Sync, T: Taker>(
+fn run_by_rule<R: AllocGlobal + Threads + Sync, T: Taker>(
     rt: &R,
     subject: Subject<'_>,
     rule: Rule,
     taker: &mut T,
 ) -> TriedRun {
-    let Subject { setup, course } = subject;
-    let mut trier = WindowTrier::new(rt, setup, rule, true);
+    let Subject { launch, course } = subject;
+    let mut trier = WindowTrier::new(rt, launch, rule, true);
     let (done, core) = parted(trier.run(course, taker));
     let untried = Untried::Past(Some(trier.bound()));
     TriedRun {
@@ -136,7 +136,7 @@ fn run_by_rule<R: Files + AllocGlobal + Threads + Sync, T: Taker>(
 }
 
 /// Runs what is set up, and tries its crashes by a rule, or by bench's own.
-fn run_by<R: Files + AllocGlobal + Threads + Sync, T: Taker>(
+fn run_by<R: AllocGlobal + Threads + Sync, T: Taker>(
     rt: &R,
     subject: Subject<'_>,
     rule: Option<Rule>,

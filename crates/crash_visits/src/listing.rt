@@ -5,11 +5,10 @@ use crash_outcomes::outcome_of;
 use crash_points::{Course, CrashPlace, Promise, RunEnd, Stop, Taker, Told};
 use faults::Fault;
 use files::FileList;
-use scripts::Setup;
+use scripts::Launch;
 use std::alloc::Global;
 use std::collections::HashSet;
 use std::io::Write;
-use std::rt::Files;
 use std::thread::Threads;
 
 /// Prints each list once.
@@ -45,9 +44,9 @@ impl<O: Write> Taker for Lister<'_, O> {
 
 /// Runs what is set up, and prints each list of files that a crash may leave by a rule, when it is found for the first time. At the end
 /// it prints how many there were. Gives how the run ended.
-pub fn explore_by<R: Files + AllocGlobal + Threads + Sync, O: Write>(
+pub fn explore_by<R: AllocGlobal + Threads + Sync, O: Write>(
     rt: &R,
-    setup: &mut Setup,
+    launch: &Launch,
     course: &Course,
     rule: Rule,
     out: &mut O,
@@ -57,7 +56,7 @@ pub fn explore_by<R: Files + AllocGlobal + Threads + Sync, O: Write>(
         lines: HashSet::new(rt.alloc()),
         out,
     };
-    let mut trier = WindowTrier::new(rt, setup, rule, false);
+    let mut trier = WindowTrier::new(rt, launch, rule, false);
     match trier.run(course, &mut lister) {
         Ok(end) => {
             let (count, bound) = (lister.lines.len(), trier.bound());

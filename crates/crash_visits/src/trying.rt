@@ -8,8 +8,7 @@ use crash_points::{
 };
 use exec_runs::Ending;
 use kernel::{Answer, Core, Event, SimDisk};
-use scripts::{EventText, Setup, Visitor, bytes_text, process_of};
-use std::rt::Files;
+use scripts::{EventText, Launch, Visitor, bytes_text, process_of};
 use std::sync::Arc;
 use std::thread::Threads;
 
@@ -25,7 +24,7 @@ struct Crashes {
 #[derive(Drop)]
 pub struct Trier<'a, R> {
     rt: &'a R,
-    setup: &'a mut Setup,
+    launch: &'a Launch,
     mirror: Mirror,
     /// How many boots the run had.
     boots: u64,
@@ -40,12 +39,12 @@ pub struct Trier<'a, R> {
     found: Vec<Crashes>,
 }
 
-impl<'a, R: Files + AllocGlobal> Trier<'a, R> {
+impl<'a, R: AllocGlobal> Trier<'a, R> {
     /// Before the first boot.
-    pub fn new(rt: &'a R, setup: &'a mut Setup) -> Trier<'a, R> {
+    pub fn new(rt: &'a R, launch: &'a Launch) -> Trier<'a, R> {
         Trier {
             rt,
-            setup,
+            launch,
             mirror: Mirror::new(rt.alloc()),
             boots: 0,
             played: String::new(rt.alloc()),
@@ -98,7 +97,7 @@ impl<'a, R: Files + AllocGlobal> Trier<'a, R> {
     fn boot(&mut self, left: Option<SimDisk>) -> Result<Core, Stop>
         requires { IfSome left (λ device. is_quiet device ≡ true) }
     {
-        let core = self.setup.boot(self.rt, left)?;
+        let core = self.launch.boot(self.rt.alloc(), left)?;
         self.boots = self.boots.saturating_add(1);
         self.mirror = Mirror::new(self.rt.alloc());
         self.try_crashes(&core)?;
@@ -121,7 +120,7 @@ fn hand_out<T: Taker>(crashes: &Crashes, taker: &mut T) -> Result<(), Stop> {
     Ok(())
 }
 
-impl<R: Files + AllocGlobal + Threads + Sync> Trier<'_, R> {
+impl<R: AllocGlobal + Threads + Sync> Trier<'_, R> {
     /// Hands out what was found since the last time.
     fn hand_out_all<T: Taker>(&mut self, taker: &mut T) -> Result<(), Stop> {
         let mut found = Vec::new(self.rt.alloc());
@@ -150,7 +149,7 @@ impl<R: Files + AllocGlobal + Threads + Sync> Trier<'_, R> {
     }
 }
 
-impl<R: Files + AllocGlobal> Visitor for Trier<'_, R> {
+impl<R: AllocGlobal> Visitor for Trier<'_, R> {
     type Fault = Stop;
 
     fn before(&mut self, core: &Core, event: Event) -> Result<(), Stop> {

@@ -9,9 +9,8 @@ use crash_outcomes::{Moment, moment_of, stands_at_sync};
 use crash_points::{Course, CrashPlace, Playing, Promise, RunEnd, Stop, Taker};
 use exec_runs::Ending;
 use kernel::{Answer, Core, Event, SimDisk};
-use scripts::{EventText, Setup, Visitor, bytes_text};
+use scripts::{EventText, Launch, Visitor, bytes_text};
 use std::alloc::AllocError;
-use std::rt::Files;
 use std::thread::Threads;
 
 /// The most promises that are kept until they are handed out.
@@ -22,7 +21,7 @@ const MOST_TOGETHER: usize = 256;
 #[derive(Drop)]
 pub struct WindowTrier<'a, R> {
     rt: &'a R,
-    setup: &'a mut Setup,
+    launch: &'a Launch,
     /// How many boots the run had.
     boots: u64,
     /// The lines of the run so far.
@@ -52,17 +51,17 @@ fn is_sync(core: &Core, event: Event) -> bool {
     }
 }
 
-impl<'a, R: Files + AllocGlobal> WindowTrier<'a, R> {
+impl<'a, R: AllocGlobal> WindowTrier<'a, R> {
     /// Before the first boot. Promises count or not.
     pub fn new(
         rt: &'a R,
-        setup: &'a mut Setup,
+        launch: &'a Launch,
         rule: Rule,
         has_promises: bool,
     ) -> WindowTrier<'a, R> {
         WindowTrier {
             rt,
-            setup,
+            launch,
             boots: 0,
             played: String::new(rt.alloc()),
             shown: Vec::new(rt.alloc()),
@@ -176,7 +175,7 @@ impl<'a, R: Files + AllocGlobal> WindowTrier<'a, R> {
     fn boot(&mut self, left: Option<SimDisk>) -> Result<Core, Stop>
         requires { IfSome left (λ device. is_quiet device ≡ true) }
     {
-        let core = self.setup.boot(self.rt, left)?;
+        let core = self.launch.boot(self.rt.alloc(), left)?;
         self.boots = self.boots.saturating_add(1);
         self.printed = 0;
         self.open(&core)?;
@@ -184,7 +183,7 @@ impl<'a, R: Files + AllocGlobal> WindowTrier<'a, R> {
     }
 }
 
-impl<R: Files + AllocGlobal + Threads + Sync> WindowTrier<'_, R> {
+impl<R: AllocGlobal + Threads + Sync> WindowTrier<'_, R> {
     /// Hands out what a crash may leave in the windows that have ended.
     fn try_closed<T: Taker>(&mut self, taker: &mut T) -> Result<(), Stop> {
         let mut all = Vec::new(self.rt.alloc());
@@ -214,7 +213,7 @@ impl<R: Files + AllocGlobal + Threads + Sync> WindowTrier<'_, R> {
     }
 }
 
-impl<R: Files + AllocGlobal> Visitor for WindowTrier<'_, R> {
+impl<R: AllocGlobal> Visitor for WindowTrier<'_, R> {
     type Fault = Stop;
 
     fn before(&mut self, core: &Core, event: Event) -> Result<(), Stop> {

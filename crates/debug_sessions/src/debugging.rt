@@ -103,20 +103,19 @@ pub struct Debuggee {
 }
 
 /// The program of what was booted from which a process descends.
-fn process_of<R: Files + AllocGlobal>(
-    rt: &R,
+fn process_of(
+    alloc: Global,
     mut subject: Subject,
     core: Core,
     process: u32,
 ) -> Result<Debuggee, Fault> {
-    let alloc = rt.alloc();
     let mut recorder = Recorder::new(alloc, core, process);
-    let booted = subject.setup.programs.as_mut_slice();
+    let booted = subject.launch.programs();
     let place = await_process(alloc, &mut recorder, process, booted.len())?;
-    let Some(program) = booted.get_mut(place) else {
+    let Some(program) = booted.get(place) else {
         return Err(Fault::from(Refusal::Process { process }));
     };
-    let image = program.source.image(rt)?;
+    let image = program.image.try_clone(alloc)?;
     let places = if place < subject.programs.len() {
         Some(subject.programs.swap_remove(place).into_parts().1)
     } else {
@@ -136,10 +135,10 @@ pub fn process_in<R: Files + AllocGlobal, I: Read>(
     options: &LiveOptions<'_>,
     input: &mut Input<'_, I>,
 ) -> Result<Debuggee, Fault> {
-    let mut subject = subject_in(rt, &options.programs, input)?;
+    let subject = subject_in(rt, &options.programs, input)?;
     let booted = subject.boot_on(rt, options.disk);
     let core = of_subject(rt.alloc(), &options.programs, booted)?;
-    process_of(rt, subject, core, options.process)
+    process_of(rt.alloc(), subject, core, options.process)
 }
 
 /// Debugs the image in a file, by the commands on the input. The program's calls get the replies of the trace in another file, or

@@ -4,42 +4,10 @@ use faults::{Fault, write_line};
 use std::alloc::Global;
 use std::io::Write;
 
-/// How many were executed at each address, in ascending order, of which some were passed.
-#[derive(Clone, Copy)]
-struct Entries<'a> {
-    rest: &'a [(u32, u64)],
-}
-
-impl Entries<'_> {
-    /// The next one, if it is at an address below this one.
-    fn next_below(&mut self, end: u64) -> Option<(u32, u64)> {
-        match self.rest {
-            [first, rest @ ..] if u64::from(first.0) < end => {
-                let entry = *first;
-                self.rest = rest;
-                Some(entry)
-            }
-            _ => None,
-        }
-    }
-
-    /// How many were executed at addresses below this one, of those that were not passed, which now are.
-    fn sum_below(&mut self, end: u64) -> u64 {
-        let mut sum = 0u64;
-        for _ in 0..self.rest.len() {
-            match self.next_below(end) {
-                Some((_address, count)) => sum = sum.saturating_add(count),
-                None => return sum,
-            }
-        }
-        sum
-    }
-}
-
 /// Past all addresses.
 const END: u64 = 1 << 32;
 
-/// Where the part of a place begins; past all addresses where there is none.
+/// Where the part of a place begins; past all addresses if there is none.
 fn start_of(parts: &[Part<'_>], place: usize) -> u64 {
     match parts.get(place) {
         Some(part) => u64::from(part.start),
@@ -47,42 +15,21 @@ fn start_of(parts: &[Part<'_>], place: usize) -> u64 {
     }
 }
 
-/// Prints a line for each word before the parts.
-fn print_words<E: Write>(
-    program: &LoadedProgram,
-    entries: &mut Entries<'_>,
-    end: u64,
-    err: &mut E,
-) -> Result<(), Fault> {
-    for _ in 0..entries.rest.len() {
-        let Some((address, count)) = entries.next_below(end) else {
-            return Ok(());
-        };
-        let word = WordText { program, address };
-        write_line(err, format_args!("{count:>12}  {word}"))?;
-    }
-    Ok(())
+/// The entries at addresses below this one, and the others.
+fn split_below(entries: &[(u32, u64)], end: u64) -> (&[(u32, u64)], &[(u32, u64)]) {
+    entries.split_at(entries.partition_point(|entry| u64::from(entry.0) < end))
 }
 
-/// Prints a line for each part; not for a function of which nothing was executed.
-fn print_parts<E: Write>(
-    path: &str,
-    parts: &[Part<'_>],
-    entries: &mut Entries<'_>,
-    err: &mut E,
-) -> Result<(), Fault> {
-    for (place, part) in parts.iter().enumerate() {
-        let count = entries.sum_below(start_of(parts, place.saturating_add(1)));
-        if count > 0 || part.name.is_line() {
-            let name = part.name;
-            write_line(err, format_args!("{count:>12}  {path}{name}"))?;
-        }
+fn sum_of(entries: &[(u32, u64)]) -> u64 {
+    let mut sum = 0u64;
+    for (_address, count) in entries {
+        sum = sum.saturating_add(*count);
     }
-    Ok(())
+    sum
 }
 
-/// Prints how many instructions of a program were executed, in all and in each part. The entries have the addresses, in ascending
-/// order.
+/// Prints how many instructions of a program were executed: in all, at each word before its parts, and in each part, if it
+/// is a line or if some of it were. The entries have the addresses, in ascending order, and how many were executed there.
 pub fn print_listing<E: Write>(
     alloc: Global,
     program: &LoadedProgram,
@@ -90,11 +37,23 @@ pub fn print_listing<E: Write>(
     err: &mut E,
 ) -> Result<(), Fault> {
     let path = program.places.path.as_str();
-    let mut counted = Entries { rest: entries };
-    let all = counted.sum_below(END);
+    let all = sum_of(entries);
     write_line(err, format_args!("profile of {path}: {all} instructions"))?;
     let parts = program.parts(alloc)?;
-    let mut entries = Entries { rest: entries };
-    print_words(program, &mut entries, start_of(parts.as_slice(), 0), err)?;
-    print_parts(path, parts.as_slice(), &mut entries, err)
+    let (words, mut rest) = split_below(entries, start_of(parts.as_slice(), 0));
+    for (address, count) in words {
+        let address = *address;
+        let word = WordText { program, address };
+        write_line(err, format_args!("{count:>12}  {word}"))?;
+    }
+    for (place, part) in parts.iter().enumerate() {
+        let end = start_of(parts.as_slice(), place.saturating_add(1));
+        let (inside, after) = split_below(rest, end);
+        rest = after;
+        let (count, name) = (sum_of(inside), part.name);
+        if count > 0 || name.is_line() {
+            write_line(err, format_args!("{count:>12}  {path}{name}"))?;
+        }
+    }
+    Ok(())
 }

@@ -1,10 +1,8 @@
 //! The objects of JSON about a run. docs/EXEC.md has their schema.
 use serde::Serialize;
 
-/// A run that has ended.
 #[derive(Drop, Serialize)]
 pub struct RunObject {
-    /// The exit status.
     pub status: u8,
     /// `over`, `limit` or `deadlock`.
     pub ending: &'static str,
@@ -15,13 +13,11 @@ pub struct RunObject {
     pub disk: DiskObject,
 }
 
-/// A process at the end of its run.
 #[derive(Drop, Serialize)]
 pub struct ProcessObject {
     pub process: u32,
     /// `exited`, `trapped`, `waits` or `stopped`.
     pub state: &'static str,
-    /// What it gave to `exit`, if it did.
     pub status: Option<u32>,
     /// Where it stands, in eight hexadecimal digits.
     pub pc: String,
@@ -44,11 +40,9 @@ pub struct TerminalObject {
     pub terminal: u32,
     /// What it shows, if that is text (UTF-8).
     pub text: Option<String>,
-    /// The same bytes in hexadecimal digits.
     pub hex: String,
 }
 
-/// A file at the end of a run.
 #[derive(Drop, Serialize)]
 pub struct FileObject {
     pub name: String,

@@ -2,7 +2,7 @@
 use faults::Fault;
 use kernel::{Core, Event};
 use kernel_model::TERMINALS;
-use scripts::{Action, EventText, Setup, Step, write_setup};
+use scripts::{Action, EventText, Launch, Step, write_launch};
 use std::alloc::{AllocError, Global};
 use std::io::Write;
 
@@ -19,11 +19,11 @@ pub fn steps_of(alloc: Global, history: &[Event]) -> Result<Vec<Step>, AllocErro
 /// something.
 pub fn write_script<W: Write>(
     alloc: Global,
-    setup: &Setup,
+    launch: &Launch,
     core: &Core,
     out: &mut W,
 ) -> Result<(), Fault> {
-    write_setup(alloc, setup, out)?;
+    write_launch(alloc, launch, out)?;
     for event in core.history() {
         let line = EventText(*event);
         writeln!(out, "{line}")?;

@@ -8,14 +8,9 @@ use std::alloc::{AllocError, Global};
 use std::collections::BTreeMap;
 
 /// How many instructions were executed at each address.
+#[derive(Drop)]
 pub struct StepCounts {
     counts: BTreeMap<u32, u64>,
-}
-
-impl Drop for StepCounts {
-    fn drop(self) {
-        let StepCounts { counts: _counts } = self;
-    }
 }
 
 impl StepCounts {

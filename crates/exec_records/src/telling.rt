@@ -49,17 +49,6 @@ fn state_of(core: &Core, pid: u32, standing: Standing) -> (&'static str, Option<
     }
 }
 
-/// The report of the trap by which a process ended, if it did.
-fn trap_text(alloc: Global, core: &Core, pid: u32) -> Result<Option<String>, AllocError> {
-    let Ok(machine) = core.machine(pid) else {
-        return Ok(None);
-    };
-    match trap_report(machine) {
-        Some(report) => Ok(Some(format!(in alloc; "{report}")?)),
-        None => Ok(None),
-    }
-}
-
 /// Why a process trapped, or on what it waits.
 fn why_of(
     alloc: Global,
@@ -67,9 +56,12 @@ fn why_of(
     pid: u32,
     standing: Standing,
 ) -> Result<Option<String>, AllocError> {
-    match standing {
-        Standing::Ended => trap_text(alloc, core, pid),
-        Standing::Waits => {
+    let Ok(machine) = core.machine(pid) else {
+        return Ok(None);
+    };
+    match (standing, trap_report(machine)) {
+        (Standing::Ended, Some(report)) => Ok(Some(format!(in alloc; "{report}")?)),
+        (Standing::Waits, _) => {
             let wait = WaitText { core, pid };
             Ok(Some(format!(in alloc; "{wait}")?))
         }
@@ -82,13 +74,13 @@ fn process_object(
     run: EndedRun<'_, '_>,
     pid: u32,
     standing: Standing,
-) -> Result<Option<ProcessObject>, AllocError> {
-    let Ok(machine) = run.core.machine(pid) else {
-        return Ok(None);
+) -> Result<ProcessObject, AllocError> {
+    let pc = match run.core.machine(pid) {
+        Ok(machine) => machine.pc(),
+        Err(_) => 0,
     };
-    let pc = machine.pc();
     let (state, status) = state_of(run.core, pid, standing);
-    Ok(Some(ProcessObject {
+    Ok(ProcessObject {
         process: pid,
         state,
         status,
@@ -96,19 +88,14 @@ fn process_object(
         why: why_of(alloc, run.core, pid, standing)?,
         instructions: run.counts.of(pid).instructions,
         calls: calls_of(alloc, run.counts, pid)?,
-    }))
+    })
 }
 
 fn processes_of(alloc: Global, run: EndedRun<'_, '_>) -> Result<Vec<ProcessObject>, AllocError> {
     let mut processes = Vec::new(alloc);
-    for pid in 1..u32::MAX {
-        match run.core.standing(pid) {
-            Ok(standing) => {
-                if let Some(process) = process_object(alloc, run, pid, standing)? {
-                    processes.push(process)?;
-                }
-            }
-            Err(_) => return Ok(processes),
+    for pid in 1..=run.core.tables().processes.len() as u32 {
+        if let Ok(standing) = run.core.standing(pid) {
+            processes.push(process_object(alloc, run, pid, standing)?)?;
         }
     }
     Ok(processes)
@@ -181,10 +168,8 @@ pub fn write_json<W: Write>(
     out: &mut W,
 ) -> Result<(), Fault> {
     let object = object_of(alloc, run)?;
-    let Ok(text) = serde_json::to_string(alloc, &object) else {
-        return Err(Fault::OutOfMemory);
-    };
-    let text = text.as_str();
-    writeln!(out, "{text}")?;
-    Ok(())
+    match serde_json::to_string(alloc, &object) {
+        Ok(text) => Ok(writeln!(out, "{text}")?),
+        Err(_) => Err(Fault::OutOfMemory),
+    }
 }

@@ -1,220 +1,166 @@
 //! Calls, told one by one while a run goes on.
-use crate::errors::error_name;
-use crate::waits::words_at;
-use call_forms::{BytesText, Call, CallText};
-use call_lines::{call_at, call_text};
+use call_forms::{BytesText, CallText, Style};
+use call_lines::style_of;
 use faults::{Fault, write_line};
-use formats::Reg;
-use kernel::{Answer, Core, Event, Machine};
-use std::alloc::{AllocError, Global};
+use kernel::{Core, Event};
+use kernel_model::Request;
+use machine_model::{Reply, Stop};
+use run_events::{CallSite, EventRecord, Interest, Observer, Told};
+use std::alloc::Global;
 use std::fmt;
-use std::io::Write;
+use std::io::{self, Write};
 
 /// The most bytes that are told of what is written or read, or of a name.
 const MOST_BYTES: usize = 32;
 
-/// A call of a process that is to be carried out: how it is told, which it is, and the same as the registers have it.
-#[derive(Drop)]
-struct Pending {
-    pid: u32,
-    text: String,
-    call: Option<Call>,
-    words: CallText<'static>,
+/// The name of an error, if the number is one.
+fn error_name(number: i32) -> Option<&'static str> {
+    let name = match number {
+        -2 => "ENOENT",
+        -8 => "ENOEXEC",
+        -9 => "EBADF",
+        -10 => "ECHILD",
+        -14 => "EFAULT",
+        -22 => "EINVAL",
+        -23 => "ENFILE",
+        -24 => "EMFILE",
+        -27 => "EFBIG",
+        -32 => "EPIPE",
+        -38 => "ENOSYS",
+        _ => return None,
+    };
+    Some(name)
 }
 
-/// What tells of each call that is carried out. A call that waits is told once as waiting, and once more when it is replied to.
-pub struct CallTrace {
-    pending: Option<Pending>,
+/// What came of a call or a trap. Nothing is told to a process that waits.
+#[derive(Clone, Copy)]
+struct Outcome<'a> {
+    request: Option<&'a Request>,
+    told: Option<Told<'a>>,
+}
+
+/// The word from a place on, little-endian; 0 if there are too few bytes.
+fn word_at(bytes: &[u8], at: usize) -> u32 {
+    match bytes.get(at..at.saturating_add(4)) {
+        Some([a, b, c, d]) => u32::from_le_bytes([*a, *b, *c, *d]),
+        _ => 0,
+    }
+}
+
+impl<'a> Outcome<'a> {
+    /// The name of the error that the call was replied, if it was one.
+    fn error(&self) -> Option<&'static str> {
+        match self.told {
+            Some(Told::Reply(reply)) => error_name(reply.a0().cast_signed()),
+            _ => None,
+        }
+    }
+
+    /// A call that was refused, and shows no bytes, is written as its registers have it: else the address or the length that was refused
+    /// might be left out.
+    fn style(&self) -> Style<'a> {
+        match self.request.map(|request| style_of(request, MOST_BYTES)) {
+            Some(Style::Bytes { bytes: None, .. }) if self.error().is_some() => Style::Registers,
+            Some(style) => style,
+            None => Style::Registers,
+        }
+    }
+
+    /// Writes the number, or the error by its name, and what the reply stored.
+    fn write_reply<W: fmt::Write>(&self, f: &mut fmt::Formatter<W>, reply: &Reply) -> fmt::Result {
+        let (number, bytes) = (reply.a0().cast_signed(), reply.bytes());
+        if let Some(name) = self.error() {
+            return write!(f, " = {number} {name}");
+        }
+        if reply.has_image() {
+            return f.write_str(" enters");
+        }
+        write!(f, " = {number}")?;
+        let (first, second) = (word_at(bytes, 0), word_at(bytes, 4));
+        match self.request {
+            Some(Request::Read { .. }) => {
+                let most = MOST_BYTES;
+                let text = BytesText { bytes, most };
+                write!(f, " '{text}'")
+            }
+            Some(Request::Pipe { .. }) => write!(f, " [{first}, {second}]"),
+            Some(Request::Wait { at, .. }) if *at != 0 => write!(f, " [{first}]"),
+            _ => Ok(()),
+        }
+    }
+
+    fn print<E: Write>(self, pid: u32, site: CallSite, err: &mut E) -> io::Result<()> {
+        let arguments = site.arguments;
+        let call = CallText {
+            number: site.number,
+            arguments,
+            style: self.style(),
+        };
+        match site.stop {
+            Stop::Trap(cause) => {
+                let number = cause.number();
+                write_line(err, format_args!("process {pid}: trap {number}{self}"))
+            }
+            _ => write_line(err, format_args!("process {pid}: {call}{self}")),
+        }
+    }
+}
+
+impl fmt::Display for Outcome<'_> {
+    fn fmt<W: fmt::Write>(&self, f: &mut fmt::Formatter<W>) -> fmt::Result {
+        match self.told {
+            Some(Told::Reply(reply)) => self.write_reply(f, reply),
+            Some(Told::Ended(_)) => f.write_str(" ends"),
+            None => f.write_str(" waits"),
+        }
+    }
+}
+
+/// Prints a line for each call that is carried out. A call that waits has one when it waits first, and one more when it is replied to.
+#[derive(Drop)]
+pub struct CallTrace<'e, E> {
+    err: &'e mut E,
     /// The processes whose calls were told as waiting.
     waiting: Vec<u32>,
 }
 
-impl Drop for CallTrace {
-    fn drop(self) {
-        let CallTrace {
-            pending: _pending,
-            waiting: _waiting,
-        } = self;
-    }
-}
-
-fn pending_at(alloc: Global, pid: u32, machine: &Machine) -> Result<Pending, AllocError> {
-    Ok(Pending {
-        pid,
-        text: call_text(alloc, machine, MOST_BYTES)?,
-        call: call_at(machine),
-        words: words_at(machine),
-    })
-}
-
-/// What a call was replied, and what the reply stored.
-#[derive(Clone, Copy)]
-struct ReplyText<'a> {
-    machine: &'a Machine,
-    call: Option<Call>,
-    arguments: [u32; 3],
-}
-
-/// The byte so far after an address; 0 where none is there.
-fn byte_at(machine: &Machine, at: u32, offset: u32) -> u8 {
-    machine.space().byte(at.wrapping_add(offset)).unwrap_or(0)
-}
-
-/// The word at an address.
-fn word_at(machine: &Machine, at: u32) -> u32 {
-    u32::from_le_bytes([
-        byte_at(machine, at, 0),
-        byte_at(machine, at, 1),
-        byte_at(machine, at, 2),
-        byte_at(machine, at, 3),
-    ])
-}
-
-/// Writes the first bytes from an address on, of so many.
-fn write_bytes<W: fmt::Write>(
-    f: &mut fmt::Formatter<W>,
-    machine: &Machine,
-    at: u32,
-    count: u32,
-) -> fmt::Result {
-    let mut room = [0u8; MOST_BYTES];
-    let mut offset = 0u32;
-    for place in room.iter_mut() {
-        *place = byte_at(machine, at, offset);
-        offset = offset.wrapping_add(1);
-    }
-    let length = (count as usize).min(MOST_BYTES);
-    let text = BytesText {
-        bytes: room.get(..length).unwrap_or(&[]),
-        most: MOST_BYTES,
-    };
-    let more = if count as usize > MOST_BYTES {
-        ".."
-    } else {
-        ""
-    };
-    write!(f, " '{text}{more}'")
-}
-
-/// Writes what a reply stored, where the call replied no error.
-fn write_stored<W: fmt::Write>(
-    f: &mut fmt::Formatter<W>,
-    reply: &ReplyText<'_>,
-    a0: u32,
-) -> fmt::Result {
-    let [first, second, _] = reply.arguments;
-    match reply.call {
-        Some(Call::Read) => write_bytes(f, reply.machine, second, a0),
-        Some(Call::Pipe) => {
-            let read = word_at(reply.machine, first);
-            let write = word_at(reply.machine, first.wrapping_add(4));
-            write!(f, " [{read}, {write}]")
-        }
-        Some(Call::Wait) if first != 0 => {
-            let status = word_at(reply.machine, first);
-            write!(f, " [{status}]")
-        }
-        _ => Ok(()),
-    }
-}
-
-impl fmt::Display for ReplyText<'_> {
-    fn fmt<W: fmt::Write>(&self, f: &mut fmt::Formatter<W>) -> fmt::Result {
-        let a0 = self.machine.reg(Reg::new(10));
-        let number = a0.cast_signed();
-        if let Some(name) = error_name(number) {
-            return write!(f, " = {number} {name}");
-        }
-        if self.call == Some(Call::Exec) {
-            return f.write_str(" enters");
-        }
-        write!(f, " = {number}")?;
-        write_stored(f, self, a0)
-    }
-}
-
-/// Whether a call was refused, and the text of it shows no bytes: then it may leave out the address or the length that was refused.
-fn leaves_out(text: &str, machine: &Machine) -> bool {
-    let number = machine.reg(Reg::new(10)).cast_signed();
-    error_name(number).is_some() && !text.as_bytes().contains(&b'\'')
-}
-
-/// Prints a call that was replied to; as the registers have it where the text leaves something out.
-fn print_reply<E: Write>(pending: &Pending, machine: &Machine, err: &mut E) -> Result<(), Fault> {
-    let (pid, text, words) = (pending.pid, pending.text.as_str(), pending.words);
-    let reply = ReplyText {
-        machine,
-        call: pending.call,
-        arguments: words.arguments,
-    };
-    if leaves_out(text, machine) {
-        write_line(err, format_args!("process {pid}: {words}{reply}"))?;
-    } else {
-        write_line(err, format_args!("process {pid}: {text}{reply}"))?;
-    }
-    Ok(())
-}
-
-/// Prints what came of a call that was carried out, or of a trap.
-fn print_done<E: Write>(
-    core: &Core,
-    pending: &Pending,
-    answer: Answer,
-    err: &mut E,
-) -> Result<(), Fault> {
-    if let (Answer::Entered, Ok(machine)) = (answer, core.machine(pending.pid)) {
-        return print_reply(pending, machine, err);
-    }
-    let (pid, text) = (pending.pid, pending.text.as_str());
-    write_line(err, format_args!("process {pid}: {text} ends"))?;
-    Ok(())
-}
-
-impl CallTrace {
-    /// Before the run.
-    pub fn new(alloc: Global) -> CallTrace {
+impl<'e, E: Write> CallTrace<'e, E> {
+    pub fn new(alloc: Global, err: &'e mut E) -> CallTrace<'e, E> {
         CallTrace {
-            pending: None,
+            err,
             waiting: Vec::new(alloc),
         }
     }
+}
 
-    /// Is told of an event that is to be applied.
-    pub fn before(&mut self, alloc: Global, core: &Core, event: Event) -> Result<(), AllocError> {
-        self.pending = None;
-        if let Event::Enter { pid } = event
-            && let Ok(machine) = core.machine(pid)
-        {
-            self.pending = Some(pending_at(alloc, pid, machine)?);
+impl<E: Write> Observer for CallTrace<'_, E> {
+    type Fault = Fault;
+
+    ghost hears = { λ old r new. Unit {0} };
+
+    fn wants(&self, _core: &Core, event: Event) -> Interest {
+        match event {
+            Event::Enter { .. } => Interest::Record,
+            _ => Interest::Nothing,
         }
-        Ok(())
     }
 
-    /// Prints that a process waits, once.
-    fn tell_wait<E: Write>(&mut self, pid: u32, text: &str, err: &mut E) -> Result<(), Fault> {
-        if self.waiting.iter().any(|it| *it == pid) {
-            return Ok(());
-        }
-        self.waiting.push(pid)?;
-        write_line(err, format_args!("process {pid}: {text} waits"))?;
-        Ok(())
-    }
-
-    /// Is told of the same event after it was applied, and prints a line where a call was carried out, or waits for the first time.
-    pub fn after<E: Write>(
-        &mut self,
-        core: &Core,
-        answer: Answer,
-        err: &mut E,
-    ) -> Result<(), Fault> {
-        let Some(pending) = self.pending.take() else {
+    fn event(&mut self, _core: &Core, done: &EventRecord<'_>) -> Result<(), Fault> {
+        let Some(site) = done.call_site else {
             return Ok(());
         };
-        let pid = pending.pid;
-        if matches!(answer, Answer::Waits) {
-            return self.tell_wait(pid, pending.text.as_str(), err);
+        let pid = done.process();
+        if done.told.is_some() {
+            self.waiting.retain(|it| *it != pid);
+        } else if self.waiting.as_slice().contains(&pid) {
+            return Ok(());
+        } else {
+            self.waiting.push(pid)?;
         }
-        self.waiting.retain(|it| *it != pid);
-        print_done(core, &pending, answer, err)
+        let outcome = Outcome {
+            request: done.request,
+            told: done.told,
+        };
+        Ok(outcome.print(pid, site, self.err)?)
     }
 }

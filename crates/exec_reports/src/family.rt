@@ -2,18 +2,17 @@
 use call_forms::Call;
 use call_lines::call_at;
 use exec_files::LoadedProgram;
-use formats::Reg;
-use kernel::{Answer, Core, Event};
+use faults::Fault;
+use kernel::{Core, Event};
+use run_events::{EventRecord, Interest, Observer, Told};
 use std::alloc::{AllocError, Global};
 
 /// The programs of a run, and which of them each process runs, as far as that is known.
 pub struct Family {
-    /// For each process of the boot its program, where that is known.
+    /// For each process of the boot its program, if that is known.
     programs: Vec<Option<LoadedProgram>>,
-    /// For process 1 and up the place of its program, or that of a process of the boot. None also where it executed a file since.
+    /// For process 1 and up the place of its program, or that of a process of the boot. None also once it executed a file.
     runs: Vec<Option<usize>>,
-    /// The process that stands at a fork or an exec, which is the next event, and whether it is a fork.
-    standing: Option<(u32, bool)>,
 }
 
 impl Drop for Family {
@@ -21,7 +20,6 @@ impl Drop for Family {
         let Family {
             programs: _programs,
             runs: _runs,
-            standing: _,
         } = self;
     }
 }
@@ -29,27 +27,6 @@ impl Drop for Family {
 /// The place of a process in a list.
 fn place_of(pid: u32) -> Option<usize> {
     usize::try_from(pid.checked_sub(1)?).ok()
-}
-
-/// The call at which a process stands.
-fn call_of(core: &Core, pid: u32) -> Option<Call> {
-    call_at(core.machine(pid).ok()?)
-}
-
-/// Whether a process that called exec goes on in another program: else its a0 has an error, which is negative.
-fn has_entered(core: &Core, pid: u32) -> bool {
-    match core.machine(pid) {
-        Ok(machine) => machine.reg(Reg::new(10)) == 0,
-        Err(_) => true,
-    }
-}
-
-/// Whether a process executed a file, by what it was told.
-fn has_executed(core: &Core, pid: u32) -> bool {
-    match core.trace(pid) {
-        Ok(replies) => replies.iter().any(|reply| reply.has_image()),
-        Err(_) => false,
-    }
 }
 
 /// The place of its own program for each of so many processes.
@@ -61,8 +38,16 @@ fn own_programs(alloc: Global, count: usize) -> Result<Vec<Option<usize>>, Alloc
     Ok(runs)
 }
 
+/// Whether a process executed a file, by the replies that are handed out.
+fn has_executed(core: &Core, pid: u32) -> bool {
+    match core.trace(pid) {
+        Ok(replies) => replies.iter().any(|reply| reply.has_image()),
+        Err(_) => false,
+    }
+}
+
 impl Family {
-    /// Before the run of so many processes, of which the first ones run these programs. What the others run is not known.
+    /// Before the run of so many processes, of which the first ones run these programs. The programs of the other ones are not known.
     pub fn new(
         alloc: Global,
         programs: Vec<LoadedProgram>,
@@ -78,14 +63,12 @@ impl Family {
         Ok(Family {
             runs: own_programs(alloc, known.len())?,
             programs: known,
-            standing: None,
         })
     }
 
     /// The processes of the boot are booted again.
     pub fn reboot(&mut self, alloc: Global) -> Result<(), AllocError> {
         self.runs = own_programs(alloc, self.programs.len())?;
-        self.standing = None;
         Ok(())
     }
 
@@ -99,34 +82,20 @@ impl Family {
         self.programs.as_mut_slice()
     }
 
-    /// The place of the program that a process runs, where it is known.
     fn run_by(&self, pid: u32) -> Option<usize> {
         *self.runs.as_slice().get(place_of(pid)?)?
     }
 
-    /// Whether a process runs the first program: one of its own or of what it forked, until it executes a file.
+    /// Whether a process runs the first program, its own or its parent's, and has executed no file.
     pub fn runs_first(&self, pid: u32) -> bool {
         self.run_by(pid) == Some(0)
     }
 
-    /// The program that a process runs, where it is known.
+    /// The program that a process runs, if it is known.
     pub fn program_of(&self, pid: u32) -> Option<&LoadedProgram> {
         self.programs.as_slice().get(self.run_by(pid)?)?.as_ref()
     }
 
-    /// Is told of an event that is to be applied.
-    pub fn before(&mut self, core: &Core, event: Event) {
-        self.standing = None;
-        if let Event::Enter { pid } = event {
-            self.standing = match call_of(core, pid) {
-                Some(Call::Fork) => Some((pid, true)),
-                Some(Call::Exec) => Some((pid, false)),
-                _ => None,
-            };
-        }
-    }
-
-    /// The program of a process is no longer known.
     fn forget(&mut self, pid: u32) {
         if let Some(place) = place_of(pid)
             && let Some(runs) = self.runs.as_mut_slice().get_mut(place)
@@ -135,37 +104,45 @@ impl Family {
         }
     }
 
+    /// Notes an Enter of a process. The program of a file that it executed is not known. A process that it made runs the same program.
+    fn note(&mut self, pid: u32, has_entered: bool, is_parent: bool) -> Result<(), AllocError> {
+        if has_entered {
+            self.forget(pid);
+        }
+        if is_parent {
+            let program = self.run_by(pid);
+            self.runs.push(program)?;
+        }
+        Ok(())
+    }
+
     /// Forgets the program of each process that executed a file: after a run of whose events nothing was told here.
     pub fn forget_executed(&mut self, core: &Core) {
-        for place in 0..self.runs.len() {
-            let pid = u32::try_from(place.saturating_add(1)).unwrap_or(u32::MAX);
+        for pid in 1..=core.tables().processes.len() as u32 {
             if has_executed(core, pid) {
                 self.forget(pid);
             }
         }
     }
+}
 
-    /// A process that was made runs the program of its parent.
-    fn join(&mut self, core: &Core, parent: u32) -> Result<(), AllocError> {
-        let next = u32::try_from(self.runs.len().saturating_add(1)).unwrap_or(u32::MAX);
-        if core.standing(next).is_err() {
-            return Ok(());
+impl Observer for Family {
+    type Fault = Fault;
+
+    ghost hears = { λ old r new. Unit {0} };
+
+    fn wants(&self, core: &Core, event: Event) -> Interest {
+        let Event::Enter { pid } = event else {
+            return Interest::Nothing;
+        };
+        match core.machine(pid).map(call_at) {
+            Ok(Some(Call::Fork | Call::Exec)) => Interest::Record,
+            _ => Interest::Nothing,
         }
-        let of_parent = self.run_by(parent);
-        Ok(self.runs.push(of_parent)?)
     }
 
-    /// Is told of the same event after it was applied.
-    pub fn after(&mut self, core: &Core, answer: Answer) -> Result<(), AllocError> {
-        match (self.standing, answer) {
-            (Some((pid, true)), Answer::Entered) => self.join(core, pid),
-            (Some((pid, false)), Answer::Entered) => {
-                if has_entered(core, pid) {
-                    self.forget(pid);
-                }
-                Ok(())
-            }
-            _ => Ok(()),
-        }
+    fn event(&mut self, _core: &Core, done: &EventRecord<'_>) -> Result<(), Fault> {
+        let has_entered = matches!(done.told, Some(Told::Reply(reply)) if reply.has_image());
+        Ok(self.note(done.process(), has_entered, done.child.is_some())?)
     }
 }

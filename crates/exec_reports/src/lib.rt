@@ -5,15 +5,12 @@
 
 mod call_trace;
 mod ending;
-mod errors;
 mod family;
 mod lines;
 mod places;
-mod waits;
 
 pub use call_trace::CallTrace;
 pub use ending::{count_left, print_ending, status_of_run};
 pub use family::Family;
 pub use lines::print_processes;
-pub use places::StandText;
-pub use waits::WaitText;
+pub use places::{StandText, WaitText};

@@ -20,30 +20,13 @@ pub struct Order {
     pub limit: Option<u64>,
 }
 
-/// A turn: of which process, and of how many instructions at most.
-#[derive(Clone, Copy)]
-pub struct Turn {
-    pub pid: u32,
-    pub most: u32,
-}
-
-/// What chooses turns.
 #[derive(Clone, Copy)]
 pub struct Chooser {
     random: Option<Random>,
-    /// The process that was chosen last; 0 where none was.
+    /// The process that was chosen last; 0 before the first.
     last: u32,
     /// How many more turns it may have at once.
     left: u32,
-}
-
-/// Which processes one is drawn of.
-#[derive(Clone, Copy, PartialEq, Eq)]
-enum Among {
-    /// All that may go on.
-    All,
-    /// Those of them that stand at no call, where they might wait again.
-    Running,
 }
 
 /// Whether a process stands at a call or a trap.
@@ -54,33 +37,34 @@ pub fn is_stopped(core: &Core, pid: u32) -> bool {
     }
 }
 
-/// Whether one is drawn of this process too. None where there is no such process.
-fn is_among(core: &Core, among: Among, pid: u32) -> Option<bool> {
-    match core.standing(pid) {
-        Ok(Standing::Free) => Some(among == Among::All || !is_stopped(core, pid)),
-        Ok(_) => Some(false),
-        Err(_) => None,
-    }
+fn is_free(core: &Core, pid: u32) -> bool {
+    matches!(core.standing(pid), Ok(Standing::Free))
 }
 
-/// Of how many processes one is drawn.
-fn count_among(core: &Core, among: Among) -> u32 {
+fn last_process(core: &Core) -> u32 {
+    core.tables().processes.len() as u32
+}
+
+/// Whether this process may be drawn. `is_in_vain` leaves out those that are at a call, where they might wait again.
+fn may_be_drawn(core: &Core, is_in_vain: bool, pid: u32) -> bool {
+    is_free(core, pid) && !(is_in_vain && is_stopped(core, pid))
+}
+
+fn count_drawn(core: &Core, is_in_vain: bool) -> u32 {
     let mut count = 0u32;
-    for pid in 1..u32::MAX {
-        match is_among(core, among, pid) {
-            Some(true) => count = count.saturating_add(1),
-            Some(false) => {}
-            None => return count,
+    for pid in 1..=last_process(core) {
+        if may_be_drawn(core, is_in_vain, pid) {
+            count = count.saturating_add(1);
         }
     }
     count
 }
 
-/// The process of these before which there are so many others.
-fn drawn(core: &Core, among: Among, others: u32) -> Option<u32> {
+/// The process that may be drawn after so many others.
+fn drawn(core: &Core, is_in_vain: bool, others: u32) -> Option<u32> {
     let mut left = others;
-    for pid in 1..u32::MAX {
-        match is_among(core, among, pid)? {
+    for pid in 1..=last_process(core) {
+        match may_be_drawn(core, is_in_vain, pid) {
             true if left == 0 => return Some(pid),
             true => left = left.saturating_sub(1),
             false => {}
@@ -91,37 +75,31 @@ fn drawn(core: &Core, among: Among, others: u32) -> Option<u32> {
 
 /// The first process after this one, by rising number and round again, that may go on.
 fn next_free(core: &Core, last: u32) -> Option<u32> {
-    let mut first = None;
-    for pid in 1..u32::MAX {
-        match core.standing(pid) {
-            Ok(Standing::Free) if pid > last => return Some(pid),
-            Ok(Standing::Free) if first.is_none() => first = Some(pid),
-            Ok(_) => {}
-            Err(_) => return first,
+    let count = last_process(core);
+    for step in 0..count {
+        let pid = last.wrapping_add(step) % count + 1;
+        if is_free(core, pid) {
+            return Some(pid);
         }
     }
-    first
+    None
 }
 
-/// A turn by chance. After one in vain, of a process that waits, it is of one that stands at no call, if there is one: else many that
-/// wait would each be tried again after each call of another.
-fn any_turn(core: &Core, random: &mut Random, is_in_vain: bool) -> Option<Turn> {
-    let among = if is_in_vain && count_among(core, Among::Running) > 0 {
-        Among::Running
-    } else {
-        Among::All
-    };
-    let pid = drawn(core, among, random.below(count_among(core, among)))?;
+/// A turn by chance. After one in vain, of a process that waits, it is of a process that is at no call, if there is one: else many
+/// processes that wait would each be tried again after each call of another process.
+fn any_turn(core: &Core, random: &mut Random, is_in_vain: bool) -> Option<(u32, u32)> {
+    let is_in_vain = is_in_vain && count_drawn(core, true) > 0;
+    let pid = drawn(
+        core,
+        is_in_vain,
+        random.below(count_drawn(core, is_in_vain)),
+    )?;
     let length = random.below(LENGTHS);
     let most = random.below(1u32.checked_shl(length).unwrap_or(1));
-    Some(Turn {
-        pid,
-        most: most.saturating_add(1),
-    })
+    Some((pid, most.saturating_add(1)))
 }
 
 impl Chooser {
-    /// Before the first turn.
     pub fn new(seed: Option<u64>) -> Chooser {
         Chooser {
             random: seed.map(Random::new),
@@ -130,33 +108,25 @@ impl Chooser {
         }
     }
 
-    /// Whether the process that was chosen last may go on at once.
-    fn may_stay(&self, core: &Core) -> bool {
-        self.left > 0 && matches!(core.standing(self.last), Ok(Standing::Free))
-    }
-
-    /// Is told that the process that was chosen last ran to the end of its turn, and came to no call.
+    /// The process that was chosen last ran to the end of its turn, and came to no call.
     pub fn pass(&mut self) {
         self.left = 0;
     }
 
-    /// The next turn. None where no process may go on.
-    pub fn next(&mut self, core: &Core) -> Option<Turn> {
+    /// The next turn: of which process, and of how many instructions at most. None if no process may go on.
+    pub fn next(&mut self, core: &Core) -> Option<(u32, u32)> {
         if let Some(random) = &mut self.random {
             let is_in_vain = matches!(core.standing(self.last), Ok(Standing::Waits));
-            let turn = any_turn(core, random, is_in_vain)?;
-            self.last = turn.pid;
-            return Some(turn);
+            let (pid, most) = any_turn(core, random, is_in_vain)?;
+            self.last = pid;
+            return Some((pid, most));
         }
-        if self.may_stay(core) {
+        if self.left > 0 && is_free(core, self.last) {
             self.left = self.left.saturating_sub(1);
         } else {
             self.last = next_free(core, self.last)?;
             self.left = MOST_TURNS;
         }
-        Some(Turn {
-            pid: self.last,
-            most: LONG_TURN,
-        })
+        Some((self.last, LONG_TURN))
     }
 }

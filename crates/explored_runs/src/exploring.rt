@@ -6,7 +6,7 @@ use crate::limits::Limits;
 use crate::programs::Programs;
 use crate::run_search::{Heard, Listener, search_runs, search_runs_part};
 use crate::runs::Runs;
-use crate::saved::{script_of, setup_lines};
+use crate::saved::{launch_lines, script_of};
 use crate::visited::Visits;
 use faults::Fault;
 use host_files::write_file;
@@ -15,7 +15,7 @@ use order_outcomes::{
     write_outcome, write_state,
 };
 use progress::{Progress, ProgressCount};
-use scripts::Setup;
+use scripts::Launch;
 use state_search::{Found, Key, StateDigest};
 use std::alloc::{AllocError, Global};
 use std::io::{self, Write};
@@ -43,7 +43,7 @@ struct Printer<'r, 'p, 'w, 'o, 'e, R, O, E> {
     /// The calls of the first outcome in which a process runs on, once one is found.
     runs_on: &'r mut Option<Vec<u32>>,
     /// The set-up lines with which the script of an outcome begins.
-    setup: Vec<u8>,
+    launch: Vec<u8>,
     findings: Findings<'w>,
     /// The outcomes of a level, before it is done.
     over: Vec<Outcome>,
@@ -61,7 +61,7 @@ impl<R, O, E> Drop for Printer<'_, '_, '_, '_, '_, R, O, E> {
             is_part: _,
             wanted: _,
             runs_on: _,
-            setup: _setup,
+            launch: _launch,
             findings: _findings,
             over: _over,
             out: _out,
@@ -84,7 +84,7 @@ impl<R: Files + AllocGlobal, O: Write, E: Write> Printer<'_, '_, '_, '_, '_, R, 
         };
         let alloc = self.rt.alloc();
         let replay = self.runs.replay(calls)?;
-        let script = script_of(alloc, self.setup.as_slice(), &replay)?;
+        let script = script_of(alloc, self.launch.as_slice(), &replay)?;
         let path = script_path(alloc, folder, number)?;
         write_file(self.rt, path.as_str(), script.as_slice())
     }
@@ -226,11 +226,10 @@ fn sum_of(lines: &[u8]) -> Key {
 /// told to `err`, if that is wanted. Of a part its file is printed, for `merge_parts`. `runs_on` gets the calls of the first outcome in which
 /// a process runs on.
 ///
-/// Where outcomes are expected, the first that is not among them ends the search. The expectations are read first, and then the programs;
-/// the first fault ends it. What is printed is the same, however many threads search.
+/// Where outcomes are expected, the first that is not among them ends the search. The expectations are read first. What is printed is the same, however many threads search.
 pub fn explore_orders<R: Files + AllocGlobal + Threads + Sync, O: Write, E: Write>(
     rt: &R,
-    setup: &mut Setup,
+    launch: &Launch,
     limits: Limits,
     wanted: Wanted<'_>,
     runs_on: &mut Option<Vec<u32>>,
@@ -241,8 +240,8 @@ pub fn explore_orders<R: Files + AllocGlobal + Threads + Sync, O: Write, E: Writ
 {
     let alloc = rt.alloc();
     let findings = Findings::new(alloc, wanted.expected)?;
-    let programs = Programs::of_setup(rt, setup)?;
-    let lines = setup_lines(alloc, setup)?;
+    let programs = Programs::of_launch(alloc, launch)?;
+    let lines = launch_lines(alloc, launch)?;
     let sum = sum_of(lines.as_slice());
     let runs = Runs {
         alloc,
@@ -256,7 +255,7 @@ pub fn explore_orders<R: Files + AllocGlobal + Threads + Sync, O: Write, E: Writ
         is_part: limits.part.is_some(),
         wanted,
         runs_on,
-        setup: lines,
+        launch: lines,
         findings,
         over: Vec::new(alloc),
         out: Summed::new(out),

@@ -3,9 +3,8 @@ ghost use Rattle.std.specs.Prelude.{◌≡◌, [], IfOk};
 
 use faults::Fault;
 use kernel::Core;
-use scripts::Setup;
+use scripts::Launch;
 use std::alloc::{AllocError, Global};
-use std::rt::Files;
 
 /// Programs that were booted, before any event. Each run begins with a copy of that core.
 pub struct Programs {
@@ -20,10 +19,9 @@ impl Drop for Programs {
 }
 
 impl Programs {
-    /// Boots what is set up. Files of images are read in their order, and the first faulty one is the fault. Where no program is set up, line 1
-    /// of the script is refused.
-    pub fn of_setup<R: Files + AllocGlobal>(rt: &R, setup: &mut Setup) -> Result<Programs, Fault> {
-        let booted = setup.boot(rt, None)?;
+    /// Boots them.
+    pub fn of_launch(alloc: Global, launch: &Launch) -> Result<Programs, Fault> {
+        let booted = launch.boot(alloc, None)?;
         Ok(Programs { booted })
     }
 

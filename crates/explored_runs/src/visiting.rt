@@ -13,9 +13,8 @@ use faults::Fault;
 use kernel::Core;
 use order_outcomes::{Outcome, Totals};
 use replayed_runs::Replay;
-use scripts::Setup;
-use std::alloc::AllocError;
-use std::rt::Files;
+use scripts::Launch;
+use std::alloc::{AllocError, Global};
 use std::thread::Threads;
 
 /// Takes the states that a search of all orders finds.
@@ -138,20 +137,20 @@ impl<T: StateTaker> Visiting<'_, T> {
 
 /// Has each state taken that a search of all orders of the calls of programs finds, once, those of fewest calls first. Where the limits
 /// cut the search, the states that it left are not taken, and the result says how many they are. Where windows are visited, states are two
-/// also where the files were others at a moment since the last sync. The whole is searched, whatever part the limits name. The programs are
-/// read first. What is taken is the same, however many threads search.
-pub fn explore_states<R: Files + AllocGlobal + Threads + Sync, T: StateTaker>(
+/// also where the files were others at a moment since the last sync. The whole is searched, whatever part the limits name. What is taken is the same, however many threads search.
+pub fn explore_states<R: AllocGlobal + Threads + Sync, T: StateTaker>(
     rt: &R,
-    setup: &mut Setup,
+    launch: &Launch,
     limits: Limits,
     visits: Visits,
     taker: &mut T,
 ) -> Result<ExploredStates, T::Fault>
     ensures { IfOk result (λ explored. ExploredTo limits.instructions visits explored.totals limits.states (unwrap_or limits.calls 10000)) }
 {
-    let programs = Programs::of_setup(rt, setup)?;
+    let alloc = rt.alloc();
+    let programs = Programs::of_launch(alloc, launch)?;
     let runs = Runs {
-        alloc: rt.alloc(),
+        alloc,
         programs: &programs,
         instructions: limits.instructions,
         visits,
@@ -165,15 +164,15 @@ pub fn explore_states<R: Files + AllocGlobal + Threads + Sync, T: StateTaker>(
 }
 
 /// The run of these calls.
-fn run_of_calls<R: Files + AllocGlobal>(
-    rt: &R,
-    setup: &mut Setup,
+fn run_of_calls(
+    alloc: Global,
+    launch: &Launch,
     instructions: u32,
     calls: &[u32],
 ) -> Result<Replay, Fault> {
-    let programs = Programs::of_setup(rt, setup)?;
+    let programs = Programs::of_launch(alloc, launch)?;
     let runs = Runs {
-        alloc: rt.alloc(),
+        alloc,
         programs: &programs,
         instructions,
         visits: Visits::Nothing,
@@ -182,26 +181,26 @@ fn run_of_calls<R: Files + AllocGlobal>(
 }
 
 /// The run of these calls as lines of a script: its events, and `drain`.
-pub fn lines_of_calls<R: Files + AllocGlobal>(
-    rt: &R,
-    setup: &mut Setup,
+pub fn lines_of_calls(
+    alloc: Global,
+    launch: &Launch,
     instructions: u32,
     calls: &[u32],
 ) -> Result<String, Fault> {
-    let replay = run_of_calls(rt, setup, instructions, calls)?;
-    let mut lines = lines_of(rt.alloc(), replay.core.history())?;
+    let replay = run_of_calls(alloc, launch, instructions, calls)?;
+    let mut lines = lines_of(alloc, replay.core.history())?;
     lines.push_str("drain\n")?;
     Ok(lines)
 }
 
 /// The core at the end to which these calls lead. What waits there has tried its call once more, and all is committed.
-pub fn end_of_calls<R: Files + AllocGlobal>(
-    rt: &R,
-    setup: &mut Setup,
+pub fn end_of_calls(
+    alloc: Global,
+    launch: &Launch,
     instructions: u32,
     calls: &[u32],
 ) -> Result<Core, Fault> {
-    let mut replay = run_of_calls(rt, setup, instructions, calls)?;
+    let mut replay = run_of_calls(alloc, launch, instructions, calls)?;
     for pid in 1..=replay.last_process() {
         end_of(&mut replay, pid)?;
     }

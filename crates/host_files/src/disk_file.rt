@@ -2,25 +2,35 @@
 ghost use Rattle.std.specs.Prelude.{◌≡◌, true, IfOk};
 ghost use Rattle.disk_model.specs.Storage.{is_quiet};
 
+use crate::kind::{FileKind, KindText, kind_of};
 use crate::output_file::OutputFile;
 use faults::{Fault, Refusal, at_path};
 use input_reading::bytes_in;
 use simdisk::{DiskRefusal, SIZE, SimDisk};
-use std::alloc::Global;
+use std::alloc::{AllocError, Global};
 use std::io::ErrorKind;
 use std::rt::Files;
 
-/// The fault of a file of so many bytes that hold no disk.
-fn disk_fault(alloc: Global, path: &str, count: usize, refusal: DiskRefusal) -> Fault {
+/// What is said of a file of bytes that hold no disk: what else it is, or how many there are.
+fn said_of(alloc: Global, path: &str, bytes: &[u8]) -> Result<String, AllocError> {
+    let (kind, count) = (kind_of(bytes), bytes.len());
+    match kind {
+        FileKind::Text | FileKind::Other if count > SIZE => {
+            format!(in alloc; "a disk has {SIZE} bytes, and this file has more")
+        }
+        FileKind::Text | FileKind::Other => {
+            format!(in alloc; "a disk has {SIZE} bytes, and this file has {count}")
+        }
+        _ => format!(in alloc; "a disk has {SIZE} bytes; {}", KindText { kind, path }),
+    }
+}
+
+/// The fault of a file of bytes that hold no disk.
+fn disk_fault(alloc: Global, path: &str, bytes: &[u8], refusal: DiskRefusal) -> Fault {
     if !matches!(refusal, DiskRefusal::BadLength) {
         return Fault::from(refusal);
     }
-    let text = if count > SIZE {
-        format!(in alloc; "a disk has {SIZE} bytes, and this file has more")
-    } else {
-        format!(in alloc; "a disk has {SIZE} bytes, and this file has {count}")
-    };
-    Fault::saying(Refusal::DiskLength, text).at(alloc, path)
+    Fault::saying(Refusal::DiskLength, said_of(alloc, path, bytes)).at(alloc, path)
 }
 
 /// The disk of the bytes of the file at a path.
@@ -29,7 +39,7 @@ pub fn disk_of(alloc: Global, path: &str, bytes: &[u8]) -> Result<SimDisk, Fault
 {
     match SimDisk::open(alloc, bytes) {
         Ok(device) => Ok(device),
-        Err(refusal) => Err(disk_fault(alloc, path, bytes.len(), refusal)),
+        Err(refusal) => Err(disk_fault(alloc, path, bytes, refusal)),
     }
 }
 

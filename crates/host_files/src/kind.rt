@@ -1,7 +1,7 @@
 //! `kind_of`: what a file holds, by its bytes.
 use crate::fields::value_at;
 use faults::{Fault, Refusal};
-use source_checks::{form_of, is_c};
+use source_checks::form_of;
 use std::alloc::Global;
 use std::fmt;
 
@@ -11,10 +11,9 @@ const ELF_BEGIN: &[u8] = b"\x7fELF";
 /// How many bytes are looked at for those that stand in no text.
 const LOOKED_AT: usize = 64;
 
-/// The words with which lines of scripts begin.
-static SCRIPT_WORDS: [&str; 15] = [
-    "program", "image", "binary", "tape", "file", "turn", "enter", "cut", "complete", "fail",
-    "drain", "shown", "trace", "files", "crash",
+/// The words of scripts after which a number comes.
+static SCRIPT_WORDS: [&str; 10] = [
+    "program", "image", "binary", "tape", "turn", "enter", "complete", "fail", "shown", "trace",
 ];
 
 /// What a file holds.
@@ -56,10 +55,10 @@ impl fmt::Display for KindText<'_> {
             FileKind::Other => {
                 return f.write_str("it is no image, no executable for RISC-V and no source");
             }
-            FileKind::Image => ("an image", "bench run", ""),
+            FileKind::Image => ("an image", "bench exec", ""),
             FileKind::Executable => ("an executable", "bench exec", ""),
             FileKind::Script => ("a script", "bench replay", ""),
-            FileKind::Source => ("a source", "bench exec", ""),
+            FileKind::Source => ("a source", "bench exec", "; bench asm makes an image of it"),
             FileKind::C => (
                 "C",
                 "examples/c/build.sh",
@@ -98,15 +97,37 @@ fn first_word(text: &str) -> &str {
         .unwrap_or("")
 }
 
-/// Whether a text is meant as a script: its first line that is no comment begins with a word of scripts.
+/// Whether a text is meant as a script: its first line that is no comment begins with a word of scripts, with as many words after it, or a
+/// number, as a line of that kind has.
 pub fn is_script(text: &str) -> bool {
-    let word = first_word(text);
-    for known in &SCRIPT_WORDS {
-        if *known == word {
-            return true;
+    let mut words = first_line(text).split_ascii_whitespace();
+    let Some(word) = words.next() else {
+        return false;
+    };
+    let (second, third, more) = (words.next(), words.next(), words.next());
+    match word {
+        "cut" | "drain" | "files" => second.is_none(),
+        "crash" => second.is_some() && third.is_none(),
+        "file" => third.is_some() && more.is_none(),
+        word => {
+            let is_known = SCRIPT_WORDS.iter().any(|known| *known == word);
+            is_known
+                && second.is_some_and(|second| second.starts_with(|c: char| c.is_ascii_digit()))
         }
     }
-    false
+}
+
+/// Whether a line ends with a brace, outside comments and strings, as no line of assembly language does.
+fn ends_with_brace(line: &str) -> bool {
+    let code = line.split('#').next().unwrap_or("").trim_ascii_end();
+    !code.contains('"') && (code.ends_with('{') || code.ends_with('}'))
+}
+
+/// Whether a text is one of C: a line ends with a brace, and there is a semicolon, or it includes a file.
+fn is_c(text: &str) -> bool {
+    let is_shell = text.starts_with("#!");
+    let has_sign = text.contains(';') || text.contains("#include");
+    !is_shell && has_sign && text.lines().any(ends_with_brace)
 }
 
 /// Whether a text is meant as a source: its first line that is no comment begins with a label, a directive or an instruction.
@@ -140,8 +161,8 @@ pub fn kind_of(bytes: &[u8]) -> FileKind {
     match text_in_bytes(bytes) {
         Some("") => FileKind::Empty,
         Some(text) if is_script(text) => FileKind::Script,
-        Some(text) if is_c(text) => FileKind::C,
         Some(text) if is_source(text) => FileKind::Source,
+        Some(text) if is_c(text) => FileKind::C,
         Some(_) => FileKind::Text,
         None => FileKind::Other,
     }

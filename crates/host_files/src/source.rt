@@ -46,14 +46,18 @@ fn line_of(alloc: Global, image: &Image) -> Result<String, Fault> {
     Ok(format!(in alloc; "{text} text bytes, {data} data bytes, entry {entry:08x}")?)
 }
 
+/// What a text is, if it is meant as no source.
+pub fn other_kind(text: &str) -> Option<FileKind> {
+    let kind = kind_of(text.as_bytes());
+    let is_source = matches!(kind, FileKind::Source | FileKind::Text | FileKind::Other);
+    (!is_source).then_some(kind)
+}
+
 /// What is said of the source of a file that is refused: what else the file is, or what cures the fault.
 fn said_of(alloc: Global, path: &str, source: &str, fault: AsmFault) -> Result<String, AllocError> {
-    let kind = kind_of(source.as_bytes());
-    match kind {
-        FileKind::Empty | FileKind::Script | FileKind::C => {
-            format!(in alloc; "{}", KindText { kind, path })
-        }
-        _ => advice(alloc, source, fault),
+    match other_kind(source) {
+        Some(kind) => format!(in alloc; "{}", KindText { kind, path }),
+        None => advice(alloc, source, fault),
     }
 }
 
@@ -84,16 +88,18 @@ pub fn source_in<R: Files + AllocGlobal>(rt: &R, path: &str) -> Result<Vec<u8>, 
 }
 
 /// The bytes of a source's file as text, or of its beginning where it is too long. There the last character may be cut short: then the
-/// source's fault is given.
+/// source's fault is given beside the text before it.
 pub fn text_of<'b>(
     alloc: Global,
     path: &str,
     bytes: &'b [u8],
-) -> Result<Result<&'b str, AsmFault>, Fault> {
+) -> Result<(&'b str, Option<AsmFault>), Fault> {
     match str::from_utf8(bytes) {
-        Ok(source) => Ok(Ok(source)),
+        Ok(source) => Ok((source, None)),
         Err(error) if bytes.len() > MOST_SOURCE_BYTES && error.error_len().is_none() => {
-            Ok(Err(AsmFault::whole(Cause::TooLarge)))
+            let whole = bytes.get(..error.valid_up_to()).unwrap_or(&[]);
+            let source = str::from_utf8(whole).unwrap_or("");
+            Ok((source, Some(AsmFault::whole(Cause::TooLarge))))
         }
         Err(error) => Err(no_text(alloc, path, bytes, error.valid_up_to())),
     }
@@ -102,8 +108,8 @@ pub fn text_of<'b>(
 /// The text of the bytes of the source at a path.
 fn source_of<'b>(alloc: Global, path: &str, bytes: &'b [u8]) -> Result<&'b str, Fault> {
     match text_of(alloc, path, bytes)? {
-        Ok(source) => Ok(source),
-        Err(fault) => Err(source_fault(alloc, path, "", fault)),
+        (source, None) => Ok(source),
+        (source, Some(fault)) => Err(source_fault(alloc, path, source, fault)),
     }
 }
 

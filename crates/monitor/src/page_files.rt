@@ -6,8 +6,8 @@ use exec_reports::Family;
 use faults::{Fault, Refusal};
 use host_files::{source_lines, source_text};
 use run_files::{Input, of_subject, subject_in};
-use run_page::{PagedScript, write_json, write_page};
-use scripts::Setup;
+use run_page::{PagedRun, write_json, write_page};
+use scripts::Launch;
 use std::alloc::{AllocError, Global};
 use std::io::{Read, Write};
 use std::rt::Files;
@@ -46,19 +46,19 @@ fn drop_folders(alloc: Global, programs: &mut [Option<LoadedProgram>]) -> Result
 /// Reads a source beside the programs that it assembles to, of which its lines are known then. Refused where there is none.
 fn know_source<R: Files + AllocGlobal>(
     rt: &R,
-    setup: &mut Setup,
+    launch: &Launch,
     family: &mut Family,
     path: &str,
 ) -> Result<(), Fault> {
     let alloc = rt.alloc();
     let source = source_text(rt, path)?;
     let mut is_known = false;
-    for (program, known) in setup
-        .programs
-        .iter_mut()
+    for (program, known) in launch
+        .programs()
+        .iter()
         .zip(family.programs_mut().iter_mut())
     {
-        let image = program.source.image(rt)?;
+        let image = program.image.try_clone(alloc)?;
         let Some(lines) = source_lines(alloc, path, source.as_str(), &image)? else {
             continue;
         };
@@ -86,23 +86,25 @@ fn make_page<R: Files + AllocGlobal, I: Read, O: Write, E: Write>(
     let alloc = rt.alloc();
     let subject = subject_in(rt, &options.programs, &mut Input::new(input))?;
     let ShownRun {
-        mut script,
+        launch,
+        steps,
         mut family,
-    } = ShownRun::of(rt, subject, options.limit, err)?;
+    } = ShownRun::of(alloc, subject, options.limit, err)?;
     for source in &options.sources {
-        know_source(rt, &mut script.setup, &mut family, source)?;
+        know_source(rt, &launch, &mut family, source)?;
     }
     drop_folders(alloc, family.programs_mut())?;
     let name = names_in(alloc, &options.programs)?;
-    let paged = PagedScript {
+    let paged = PagedRun {
         name: name.as_str(),
-        script,
+        launch,
+        steps,
         family,
     };
     if options.json {
-        write_json(rt, paged, out)
+        write_json(alloc, paged, out)
     } else {
-        write_page(rt, paged, out)
+        write_page(alloc, paged, out)
     }
 }
 

@@ -16,10 +16,11 @@ fn draw_run<R: Files + AllocGlobal, I: Read, O: Write, E: Write>(
 ) -> Result<(), Fault> {
     let subject = subject_in(rt, &options.programs, &mut Input::new(input))?;
     let ShownRun {
-        script,
+        launch,
+        steps,
         family: _family,
-    } = ShownRun::of(rt, subject, options.limit, err)?;
-    picture(rt, script, options.cone, out)
+    } = ShownRun::of(rt.alloc(), subject, options.limit, err)?;
+    picture(rt.alloc(), &launch, steps.as_slice(), options.cone, out)
 }
 
 /// Draws the run of programs, or of a script, and in it the cone of an event, if a number is given.

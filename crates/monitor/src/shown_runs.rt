@@ -4,54 +4,50 @@ use exec_reports::{Family, print_ending};
 use exec_runs::{Ending, Order, Turns};
 use faults::Fault;
 use kernel::Core;
+use run_events::{Nobody, run};
 use run_files::Subject;
-use scripts::Script;
+use scripts::{Launch, Step};
+use std::alloc::Global;
 use std::io::Write;
-use std::rt::Files;
 
-/// A script whose run is shown, and what is known of its programs.
+/// A run that is shown: what it begins with, its steps, and what is known of its programs.
 #[derive(Drop)]
 pub struct ShownRun {
-    pub script: Script,
+    pub launch: Launch,
+    pub steps: Vec<Step>,
     pub family: Family,
 }
 
 /// Runs a core by turns, as `exec` does, to its end or until so many instructions were run.
-fn run_to(core: &mut Core, limit: u64) -> Result<Ending, Fault> {
+fn run_to(alloc: Global, core: &mut Core, limit: u64) -> Result<Ending, Fault> {
     let mut turns = Turns::new(Order {
         seed: None,
         limit: Some(limit),
     });
-    for _ in 0..u64::MAX {
-        let Some(event) = turns.next(core) else {
-            break;
-        };
-        if core.apply(event).is_err() {
-            return Err(Fault::OutOfMemory);
-        }
+    match run(alloc, core, &mut turns, &mut Nobody)? {
+        Some(_) => Err(Fault::OutOfMemory),
+        None => Ok(turns.ending()),
     }
-    Ok(turns.ending())
 }
 
 impl ShownRun {
-    /// A script as it is; of programs, or of set-up lines alone, the script of their run by turns, to the end or until so many instructions
+    /// A script as it is; of programs, or of set-up lines alone, the steps of their run by turns, to the end or until so many instructions
     /// were run. Then lines on `err` say where each process stands.
-    pub fn of<R: Files + AllocGlobal, E: Write>(
-        rt: &R,
+    pub fn of<E: Write>(
+        alloc: Global,
         subject: Subject,
         limit: u64,
         err: &mut E,
     ) -> Result<ShownRun, Fault> {
-        let alloc = rt.alloc();
         let Subject {
-            mut setup,
+            launch,
             mut steps,
             programs,
         } = subject;
-        let mut family = Family::new(alloc, programs, setup.programs.len())?;
+        let mut family = Family::new(alloc, programs, launch.programs().len())?;
         if steps.is_empty() {
-            let mut core = setup.boot(rt, None)?;
-            let ending = run_to(&mut core, limit)?;
+            let mut core = launch.boot(alloc, None)?;
+            let ending = run_to(alloc, &mut core, limit)?;
             steps = steps_of(alloc, core.history())?;
             if ending != Ending::Over {
                 family.forget_executed(&core);
@@ -59,7 +55,8 @@ impl ShownRun {
             }
         }
         Ok(ShownRun {
-            script: Script { setup, steps },
+            launch,
+            steps,
             family,
         })
     }

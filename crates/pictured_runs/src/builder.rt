@@ -6,6 +6,7 @@ use crate::texts::bytes_shown;
 use kernel::{Core, Event};
 use kernel_model::TERMINALS;
 use pictures::{Fate, FileChange, Flight, Output, Picture, Row};
+use run_events::{EventRecord, Output as Written};
 use std::alloc::{AllocError, Global};
 
 /// The heading of a picture of a whole run.
@@ -37,8 +38,6 @@ pub struct PictureBuilder {
     /// How many writes the picture had before those that were submitted last.
     first_flight: usize,
     held: Vec<Held>,
-    /// How many bytes were written to each terminal.
-    written: [usize; TERMINALS],
 }
 
 impl Drop for PictureBuilder {
@@ -50,7 +49,6 @@ impl Drop for PictureBuilder {
             committed: _,
             first_flight: _,
             held: _held,
-            written: _,
         } = self;
     }
 }
@@ -91,7 +89,6 @@ impl PictureBuilder {
             committed: 0,
             first_flight: 0,
             held: Vec::new(alloc),
-            written: [0; TERMINALS],
         })
     }
 
@@ -100,12 +97,11 @@ impl PictureBuilder {
     }
 
     /// Notes the change that an event made, if it made one.
-    fn note_change(&mut self, core: &Core) -> Result<(), AllocError> {
-        let number = core.changes();
-        if number > self.changes {
+    fn note_change(&mut self, core: &Core, done: &EventRecord<'_>) -> Result<(), AllocError> {
+        if done.change.is_some() {
             let row = self.next_row();
             self.picture.changes.push(FileChange {
-                number,
+                number: core.changes(),
                 row,
                 fate: Fate::Open,
             })?;
@@ -173,23 +169,22 @@ impl PictureBuilder {
         self.note_takeoffs(core)
     }
 
-    /// Notes what an event wrote to a terminal, if anything. The output is shown at once, or held back.
-    fn note_output(&mut self, alloc: Global, core: &Core, terminal: u32) -> Result<(), AllocError>
-        requires { terminal < terminal_count }
-    {
-        let before = self.written[terminal as usize];
-        let all = core.written(terminal);
-        let end = all.len();
-        if end <= before {
+    /// Notes what an event wrote to a terminal. The output is shown at once, or held back.
+    fn note_output(
+        &mut self,
+        alloc: Global,
+        core: &Core,
+        written: &Written<'_>,
+    ) -> Result<(), AllocError> {
+        let terminal = written.terminal;
+        if terminal >= TERMINALS as u32 {
             return Ok(());
         }
-        let text = bytes_shown(alloc, &all[before..], MOST_OUTPUT)?;
-        self.written[terminal as usize] = end;
         let row = self.next_row();
         let held = Held {
             output: self.picture.outputs.len(),
             terminal,
-            end,
+            end: core.written(terminal).len(),
         };
         let fate = if is_held(core, &held) {
             self.held.push(held)?;
@@ -199,18 +194,10 @@ impl PictureBuilder {
         };
         self.picture.outputs.push(Output {
             terminal,
-            text,
+            text: bytes_shown(alloc, written.bytes, MOST_OUTPUT)?,
             row,
             fate,
         })?;
-        Ok(())
-    }
-
-    /// Notes what an event wrote to terminals.
-    fn note_outputs(&mut self, alloc: Global, core: &Core) -> Result<(), AllocError> {
-        for terminal in 0..TERMINALS as u32 {
-            self.note_output(alloc, core, terminal)?;
-        }
         Ok(())
     }
 
@@ -230,12 +217,14 @@ impl PictureBuilder {
         &mut self,
         alloc: Global,
         core: &Core,
-        event: Event,
+        done: &EventRecord<'_>,
         mut row: Row,
     ) -> Result<(), AllocError> {
-        self.note_change(core)?;
-        self.note_flights(core, event)?;
-        self.note_outputs(alloc, core)?;
+        self.note_change(core, done)?;
+        self.note_flights(core, done.event)?;
+        if let Some(written) = &done.output {
+            self.note_output(alloc, core, written)?;
+        }
         if core.committed() > self.committed {
             let place = self.next_row();
             self.end_changes(core.committed(), Fate::Kept { row: place });
@@ -266,6 +255,5 @@ impl PictureBuilder {
         self.changes = 0;
         self.committed = 0;
         self.held.clear();
-        self.written = [0; TERMINALS];
     }
 }

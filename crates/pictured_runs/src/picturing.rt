@@ -2,109 +2,80 @@
 use crate::builder::PictureBuilder;
 use crate::cones::show_cone;
 use crate::crashes::{push_crash, push_files};
-use call_lines::{call_text, reply_text};
+use call_lines::entered_text;
 use faults::Fault;
-use kernel::{Answer, Core, Event, Machine};
+use kernel::{Answer, Core, Event};
 use pictures::{Deed, Picture, Row, draw};
-use scripts::{AnswerText, EventText, Script, Setup, Start, Visitor, play_all};
+use run_events::{Before, EventRecord, Interest, Told};
+use scripts::{AnswerText, EventText, LastBoot, Launch, Step, Visitor, play_all};
 use std::alloc::{AllocError, Global};
 use std::io::Write;
 use std::mem;
-use std::rt::Files;
 
 /// The most bytes that a call shows of what it writes or of a name.
 const MOST_BYTES: usize = 8;
 
-/// How many processes a core has.
-fn processes_of(core: &Core) -> u32 {
-    for process in 1..u32::MAX {
-        if core.standing(process).is_err() {
-            return process - 1;
-        }
-    }
-    u32::MAX
-}
-
 /// Raises the picture's number of processes to that of a core.
 fn note_processes(picture: &mut Picture, core: &Core) {
-    picture.processes = picture.processes.max(processes_of(core));
+    picture.processes = picture.processes.max(core.tables().processes.len() as u32);
 }
 
-/// The machine of the process of an Enter; None for another event.
-fn machine_of(core: &Core, event: Event) -> Option<&Machine> {
-    match event {
-        Event::Enter { pid } => core.machine(pid).ok(),
-        _ => None,
-    }
-}
-
-/// The text of the call or the trap of an event that is to be applied; empty where the event is no Enter.
-fn call_before(alloc: Global, core: &Core, event: Event) -> Result<String, AllocError> {
-    match machine_of(core, event) {
-        Some(machine) => call_text(alloc, machine, MOST_BYTES),
-        None => Ok(String::new(alloc)),
-    }
-}
-
-/// What the call of an applied event came to, as a text.
-fn outcome_after(
-    alloc: Global,
-    core: &Core,
-    event: Event,
-    answer: Answer,
-) -> Result<String, AllocError> {
-    match (answer, machine_of(core, event)) {
-        (Answer::Entered, Some(machine)) => reply_text(alloc, machine),
+/// What the call of an Enter came to, as a text.
+fn outcome_of(alloc: Global, done: &EventRecord<'_>) -> Result<String, AllocError> {
+    match (done.answer, done.told) {
         (Answer::Waits, _) => String::from_str(alloc, " waits"),
+        (_, Some(Told::Reply(reply))) => {
+            let number = reply.a0().cast_signed();
+            format!(in alloc; " = {number}")
+        }
         _ => Ok(String::new(alloc)),
     }
 }
 
 /// What an event's process did.
-fn deed_of(event: Event, call: String, outcome: String) -> Deed {
-    match event {
+fn deed_of(alloc: Global, done: &EventRecord<'_>) -> Result<Deed, AllocError> {
+    Ok(match done.event {
         Event::Turn { pid, .. } => Deed::Turn { process: pid },
         Event::Enter { pid } => Deed::Call {
             process: pid,
-            call,
-            outcome,
+            call: entered_text(alloc, done, MOST_BYTES)?,
+            outcome: outcome_of(alloc, done)?,
         },
         Event::Cut | Event::Complete { .. } | Event::Fail { .. } => Deed::Disk,
-    }
+    })
 }
 
 /// The visitor that makes the picture while a script is played: of the whole run, or `alone` of the run since the last boot.
 #[derive(Drop)]
-struct Pictured<'a, R> {
-    start: Start<'a, R>,
+struct Pictured<'a> {
+    boot: LastBoot<'a>,
     alone: bool,
     builder: PictureBuilder,
-    /// The text of the call of the event that is to be applied.
-    call: String,
+    /// What is noted of the core before the event that is to be applied.
+    before: Option<Before>,
     /// The processes whose last call waits.
     waiting: Vec<u32>,
 }
 
-impl<'a, R: Files + AllocGlobal> Pictured<'a, R> {
+impl<'a> Pictured<'a> {
     /// Before the first boot.
-    fn new(rt: &'a R, setup: &'a mut Setup, alone: bool) -> Result<Pictured<'a, R>, Fault> {
-        let alloc = rt.alloc();
+    fn new(alloc: Global, launch: &'a Launch, alone: bool) -> Result<Pictured<'a>, Fault> {
         Ok(Pictured {
-            start: Start::new(rt, setup),
+            boot: LastBoot::new(alloc, launch),
             alone,
             builder: PictureBuilder::new(alloc)?,
-            call: String::new(alloc),
+            before: None,
             waiting: Vec::new(alloc),
         })
     }
 
     /// Whether an event is not drawn: it waits, and so does the last call of its process. In a cone each event is drawn.
-    fn is_folded(&mut self, event: Event, answer: Answer) -> Result<bool, AllocError> {
-        let Event::Enter { pid } = event else {
+    fn is_folded(&mut self, done: &EventRecord<'_>) -> Result<bool, AllocError> {
+        let Event::Enter { pid } = done.event else {
             return Ok(false);
         };
         let was_waiting = self.waiting.iter().any(|it| *it == pid);
-        if !matches!(answer, Answer::Waits) {
+        if !matches!(done.answer, Answer::Waits) {
             self.waiting.retain(|it| *it != pid);
             return Ok(false);
         }
@@ -115,17 +86,15 @@ impl<'a, R: Files + AllocGlobal> Pictured<'a, R> {
     }
 
     /// The row of an event that was accepted last.
-    fn row_of(&mut self, core: &Core, event: Event, answer: Answer) -> Result<Row, AllocError> {
-        let alloc = self.start.alloc();
-        let call = mem::replace(&mut self.call, String::new(alloc));
-        let outcome = outcome_after(alloc, core, event, answer)?;
+    fn row_of(&self, core: &Core, done: &EventRecord<'_>) -> Result<Row, AllocError> {
+        let alloc = self.boot.alloc;
         let number = core.history().len();
-        let line = EventText(event);
-        let answer = AnswerText(answer);
+        let line = EventText(done.event);
+        let answer = AnswerText(done.answer);
         Ok(Row {
             label: format!(in alloc; "{number}  {line}")?,
             answer: format!(in alloc; "{answer}")?,
-            deed: deed_of(event, call, outcome),
+            deed: deed_of(alloc, done)?,
             committed: None,
             pale: false,
         })
@@ -135,12 +104,12 @@ impl<'a, R: Files + AllocGlobal> Pictured<'a, R> {
     fn boot_again(&mut self, next: &Core) -> Result<(), Fault> {
         self.waiting.clear();
         if self.alone {
-            self.builder = PictureBuilder::new(self.start.alloc())?;
+            self.builder = PictureBuilder::new(self.boot.alloc)?;
             return Ok(());
         }
         self.builder.boot();
         let picture = &mut self.builder.picture;
-        Ok(push_files(self.start.alloc(), picture, next.boot_files())?)
+        Ok(push_files(self.boot.alloc, picture, next.boot_files())?)
     }
 
     /// Completes the picture of a run that has come to its end, and shows the cone of an event in it, if a number is given.
@@ -148,35 +117,37 @@ impl<'a, R: Files + AllocGlobal> Pictured<'a, R> {
         let picture = &mut self.builder.picture;
         note_processes(picture, core);
         match cone {
-            Some(event) => show_cone(self.start.alloc(), core, picture, event),
+            Some(event) => show_cone(self.boot.alloc, core, picture, event),
             None => Ok(()),
         }
     }
 }
 
-impl<R: Files + AllocGlobal> Visitor for Pictured<'_, R> {
+impl Visitor for Pictured<'_> {
     type Fault = Fault;
 
     fn before(&mut self, core: &Core, event: Event) -> Result<(), Fault> {
-        self.call = call_before(self.start.alloc(), core, event)?;
+        let before = Before::new(self.boot.alloc, core, event, Interest::Record)?;
+        self.before = Some(before);
         Ok(())
     }
 
     fn after(&mut self, core: &Core, event: Event, answer: Answer) -> Result<(), Fault> {
-        if self.is_folded(event, answer)? {
+        let Some(before) = mem::replace(&mut self.before, None) else {
+            return Ok(());
+        };
+        let done = EventRecord::of(core, &before, event, answer);
+        if self.is_folded(&done)? {
             return Ok(());
         }
-        let row = self.row_of(core, event, answer)?;
-        Ok(
-            self.builder
-                .push_event(self.start.alloc(), core, event, row)?,
-        )
+        let row = self.row_of(core, &done)?;
+        Ok(self.builder.push_event(self.boot.alloc, core, &done, row)?)
     }
 
     fn crash(&mut self, core: Core, fill: &[u8]) -> Result<Core, Fault> {
-        push_crash(self.start.alloc(), &mut self.builder, fill)?;
+        push_crash(self.boot.alloc, &mut self.builder, fill)?;
         note_processes(&mut self.builder.picture, &core);
-        let next = self.start.crash(core, fill)?;
+        let next = self.boot.crash(core, fill)?;
         self.boot_again(&next)?;
         Ok(next)
     }
@@ -187,16 +158,17 @@ impl<R: Files + AllocGlobal> Visitor for Pictured<'_, R> {
 /// refused event is not drawn, nor is a line that applies none. With the number of an event it draws the run since the last boot
 /// alone, pale where that event does not rest on it, with arrows for the paths between processes. `Fault::Event`: there is no such
 /// event, or it is a Cut, a Complete or a Fail. The script is run before anything is written.
-pub fn picture<R: Files + AllocGlobal, O: Write>(
-    rt: &R,
-    mut script: Script,
+pub fn picture<O: Write>(
+    alloc: Global,
+    launch: &Launch,
+    steps: &[Step],
     cone: Option<u64>,
     out: &mut O,
 ) -> Result<(), Fault> {
-    let mut pictured = Pictured::new(rt, &mut script.setup, cone.is_some())?;
-    let core = pictured.start.boot()?;
-    let core = play_all(&mut pictured, core, script.steps.as_slice())?;
+    let mut pictured = Pictured::new(alloc, launch, cone.is_some())?;
+    let core = pictured.boot.boot()?;
+    let core = play_all(&mut pictured, core, steps)?;
     pictured.finish(&core, cone)?;
-    draw(rt.alloc(), &pictured.builder.picture, out)?;
+    draw(alloc, &pictured.builder.picture, out)?;
     Ok(())
 }

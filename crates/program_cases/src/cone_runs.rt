@@ -2,20 +2,16 @@
 use anyhow::Error;
 use core_cases::TestCore;
 use kernel::Event;
-use scripts::Start;
-use std::rt::Files;
+use scripts::LastBoot;
 
 /// A run before its first event.
-pub fn boot_run<R: Files + AllocGlobal>(start: &mut Start<'_, R>) -> Result<TestCore, Error> {
-    Ok(TestCore::of(start.boot()?))
+pub fn boot_run(boot: &LastBoot<'_>) -> Result<TestCore, Error> {
+    Ok(TestCore::of(boot.boot()?))
 }
 
 /// A run after these events, each of which it has to accept.
-pub fn run_after<R: Files + AllocGlobal>(
-    start: &mut Start<'_, R>,
-    events: &[Event],
-) -> Result<TestCore, Error> {
-    let mut run = boot_run(start)?;
+pub fn run_after(boot: &LastBoot<'_>, events: &[Event]) -> Result<TestCore, Error> {
+    let mut run = boot_run(boot)?;
     for event in events {
         run.apply_once(*event)?;
     }

@@ -6,17 +6,13 @@ use core_cases::{TestCore, recover};
 use files::FileList;
 use kernel::{ConeFault, Event};
 use kernel_model::TERMINALS;
-use scripts::Start;
+use scripts::LastBoot;
 use std::alloc::Global;
-use std::rt::Files;
 
 /// A run after these events, and how many changes there were before each of them, and after the last.
-fn counted_run<R: Files + AllocGlobal>(
-    start: &mut Start<'_, R>,
-    events: &[Event],
-) -> Result<(TestCore, Vec<u64>), Error> {
-    let mut run = boot_run(start)?;
-    let mut counts = Vec::new(start.alloc());
+fn counted_run(boot: &LastBoot<'_>, events: &[Event]) -> Result<(TestCore, Vec<u64>), Error> {
+    let mut run = boot_run(boot)?;
+    let mut counts = Vec::new(boot.alloc);
     counts.push(run.changes())?;
     for event in events {
         run.apply_once(*event)?;
@@ -114,15 +110,12 @@ fn check_files(alloc: Global, run: TestCore, alone: TestCore) -> Result<(), Erro
 
 /// Checks a run after these events: its visible events by themselves, all their changes committed, have to give what is committed,
 /// shown and handed out.
-pub fn check_visible<R: Files + AllocGlobal>(
-    start: &mut Start<'_, R>,
-    events: &[Event],
-) -> Result<(), Error> {
-    let (run, counts) = counted_run(start, events)?;
-    let visible = visible_events(start.alloc(), &run, counts.as_slice())?;
-    let mut alone = run_after(start, visible.as_slice())?;
+pub fn check_visible(boot: &LastBoot<'_>, events: &[Event]) -> Result<(), Error> {
+    let (run, counts) = counted_run(boot, events)?;
+    let visible = visible_events(boot.alloc, &run, counts.as_slice())?;
+    let mut alone = run_after(boot, visible.as_slice())?;
     alone.drain()?;
     check_terminals(&run, &alone)?;
-    check_processes(start.alloc(), &run, &alone)?;
-    check_files(start.alloc(), run, alone)
+    check_processes(boot.alloc, &run, &alone)?;
+    check_files(boot.alloc, run, alone)
 }

@@ -6,25 +6,20 @@ use crate::cone_told::told_by;
 use crate::cone_visible::check_visible;
 use anyhow::{Error, bail};
 use kernel::{Core, Event};
-use scripts::{Script, Start, Visitor, cone_events, play_all, process_of};
+use scripts::{LastBoot, Script, Visitor, cone_events, play_all, process_of};
 use std::rt::Files;
 
 /// The most events of a run that are compared. Each is run with its cone, so the time grows with their number and the run's length.
 const MOST_COMPARED: usize = 400;
 
 /// What the event of this number, one of this process, tells in the run of its cone alone.
-fn told_alone<R: Files + AllocGlobal>(
-    start: &mut Start<'_, R>,
-    whole: &Core,
-    number: u64,
-    pid: u32,
-) -> Result<Vec<u8>, Error> {
-    let alloc = start.alloc();
+fn told_alone(boot: &LastBoot<'_>, whole: &Core, number: u64, pid: u32) -> Result<Vec<u8>, Error> {
+    let alloc = boot.alloc;
     let cone = cone_events(alloc, whole, number)?;
     let Some((last, before)) = cone.split_last() else {
         bail!("the cone of event {number} is empty");
     };
-    let mut alone = run_after(start, before)?;
+    let mut alone = run_after(boot, before)?;
     told_by(alloc, &mut alone, *last, pid)
 }
 
@@ -37,13 +32,13 @@ fn is_compared(number: u64, count: usize) -> bool {
 
 /// Checks that events of processes tell in the runs of their cones alone what they tell in the whole run. The changes are committed
 /// here by drains, so the events of the disk are left out.
-fn check_each<R: Files + AllocGlobal>(start: &mut Start<'_, R>, whole: &Core) -> Result<(), Error> {
-    let mut run = boot_run(start)?;
+fn check_each(boot: &LastBoot<'_>, whole: &Core) -> Result<(), Error> {
+    let mut run = boot_run(boot)?;
     for (number, event) in (1u64..).zip(whole.history()) {
         match process_of(*event) {
             Some(pid) if is_compared(number, whole.history().len()) => {
-                let told = told_by(start.alloc(), &mut run, *event, pid)?;
-                if told != told_alone(start, whole, number, pid)? {
+                let told = told_by(boot.alloc, &mut run, *event, pid)?;
+                if told != told_alone(boot, whole, number, pid)? {
                     bail!("event {number} tells something else in the run of its cone");
                 }
             }
@@ -57,38 +52,35 @@ fn check_each<R: Files + AllocGlobal>(start: &mut Start<'_, R>, whole: &Core) ->
 }
 
 /// Checks what is visible after each completion of a run, and at its end.
-fn check_moments<R: Files + AllocGlobal>(
-    start: &mut Start<'_, R>,
-    events: &[Event],
-) -> Result<(), Error> {
+fn check_moments(boot: &LastBoot<'_>, events: &[Event]) -> Result<(), Error> {
     for (place, event) in events.iter().enumerate() {
         if matches!(event, Event::Complete { .. }) {
-            check_visible(start, &events[..place + 1])?;
+            check_visible(boot, &events[..place + 1])?;
         }
     }
-    check_visible(start, events)
+    check_visible(boot, events)
 }
 
 /// The visitor that checks the runs of a script while it is played.
 #[derive(Drop)]
-struct Checker<'a, R> {
-    start: Start<'a, R>,
+struct Checker<'a> {
+    boot: LastBoot<'a>,
 }
 
-impl<R: Files + AllocGlobal> Checker<'_, R> {
+impl Checker<'_> {
     /// Checks a run from its boot on.
-    fn check(&mut self, whole: &Core) -> Result<(), Error> {
-        check_each(&mut self.start, whole)?;
-        check_moments(&mut self.start, whole.history())
+    fn check(&self, whole: &Core) -> Result<(), Error> {
+        check_each(&self.boot, whole)?;
+        check_moments(&self.boot, whole.history())
     }
 }
 
-impl<R: Files + AllocGlobal> Visitor for Checker<'_, R> {
+impl Visitor for Checker<'_> {
     type Fault = Error;
 
     fn crash(&mut self, core: Core, fill: &[u8]) -> Result<Core, Error> {
         self.check(&core)?;
-        Ok(self.start.crash(core, fill)?)
+        Ok(self.boot.crash(core, fill)?)
     }
 }
 
@@ -101,11 +93,12 @@ impl<R: Files + AllocGlobal> Visitor for Checker<'_, R> {
 ///
 /// Want of memory is an error. A line of the script that is refused otherwise adds no event.
 pub fn check_cones<R: Files + AllocGlobal>(rt: &R, text: &str) -> Result<(), Error> {
-    let mut script = Script::parse(rt.alloc(), text)?;
+    let (setup, steps) = Script::parse(rt.alloc(), text)?.into_parts();
+    let launch = setup.read(rt)?;
     let mut checker = Checker {
-        start: Start::new(rt, &mut script.setup),
+        boot: LastBoot::new(rt.alloc(), &launch),
     };
-    let core = checker.start.boot()?;
-    let core = play_all(&mut checker, core, script.steps.as_slice())?;
+    let core = checker.boot.boot()?;
+    let core = play_all(&mut checker, core, steps.as_slice())?;
     checker.check(&core)
 }

@@ -1,8 +1,4 @@
 //! By which names runs of the recovery asked for files. It cannot tell apart what differs in other files alone.
-use call_forms::Call;
-use call_lines::call_at;
-use calls::request_of;
-use kernel::{Core, Event};
 use kernel_model::Request;
 use std::alloc::{AllocError, Global};
 use std::collections::BTreeSet;
@@ -34,8 +30,8 @@ impl Asked {
         Ok(())
     }
 
-    /// Adds the names that a call gives.
-    fn add_request(&mut self, alloc: Global, request: &Request) -> Result<(), AllocError> {
+    /// Adds the names in a request.
+    pub fn add(&mut self, alloc: Global, request: &Request) -> Result<(), AllocError> {
         match request {
             Request::Open {
                 mode,
@@ -62,22 +58,6 @@ impl Asked {
                 let (old, new) = names.split_at(names.len().min(*n as usize));
                 self.add_name(alloc, old)?;
                 self.add_name(alloc, new)
-            }
-            _ => Ok(()),
-        }
-    }
-
-    /// Is told of an event before the core does it.
-    pub fn before(&mut self, alloc: Global, core: &Core, event: Event) -> Result<(), AllocError> {
-        let Event::Enter { pid } = event else {
-            return Ok(());
-        };
-        let Ok(machine) = core.machine(pid) else {
-            return Ok(());
-        };
-        match call_at(machine) {
-            Some(Call::Open | Call::Unlink | Call::Rename | Call::Exec) => {
-                self.add_request(alloc, &request_of(alloc, machine)?)
             }
             _ => Ok(()),
         }

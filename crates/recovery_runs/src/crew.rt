@@ -1,5 +1,4 @@
 //! Recoveries are shared among threads, and what came of them is put together in their order.
-use crate::no_files::NoFiles;
 use crate::pending::{Job, Pending};
 use crate::recovery::RecoveryProgram;
 use crate::running::{Ran, run_recovery};
@@ -40,7 +39,6 @@ fn run_each(
     task: &mut Task,
     ran: &mut Vec<Ran>,
 ) -> Result<(), Fault> {
-    let host = NoFiles { alloc };
     let mut place = task.first;
     for _ in 0..work.jobs.len() {
         let Some(job) = work.jobs.get(place) else {
@@ -48,7 +46,7 @@ fn run_each(
         };
         if let Some(disk) = work.disks.get(job.disk) {
             let chain = job.chain.as_slice();
-            ran.push(run_recovery(&host, work.program, disk, chain, &mut task.spare)?)?;
+            ran.push(run_recovery(alloc, work.program, disk, chain, &mut task.spare)?)?;
         }
         place = place.saturating_add(task.step);
     }

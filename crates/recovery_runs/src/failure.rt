@@ -6,7 +6,7 @@ use exec_reports::{Family, print_ending, status_of_run};
 use exec_runs::Ending;
 use faults::{Fault, write_line};
 use kernel::Core;
-use scripts::Setup;
+use scripts::Launch;
 use std::io;
 use std::io::Write;
 
@@ -18,7 +18,7 @@ pub struct Failure {
     /// The crashes of recoveries that came after it.
     pub chain: Chain,
     /// What the recovery began with: the files that the crash of the run left, and the promise on its tape.
-    pub setup: Setup,
+    pub launch: Launch,
     /// The recovery at its end.
     pub core: Core,
     pub ending: Ending,
@@ -36,7 +36,7 @@ fn print_text<O: Write>(word: &str, bytes: &[u8], out: &mut O) -> io::Result<()>
 impl Failure {
     /// The bytes of the recovery's tape.
     fn tape(&self) -> &[u8] {
-        match self.setup.tapes.first() {
+        match self.launch.tapes.as_slice().first() {
             Some(tape) => tape.bytes.as_slice(),
             None => &[],
         }

@@ -11,7 +11,6 @@ mod crew;
 mod effort;
 mod failure;
 mod nested;
-mod no_files;
 mod pending;
 mod recovery;
 mod running;

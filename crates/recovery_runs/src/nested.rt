@@ -6,6 +6,7 @@ use crash_points::{CrashPlace, CrashPoint, Crashed, Mirror, Telling, digest_of_f
 use faults::Fault;
 use files::FileList;
 use kernel::{Answer, Core, Event};
+use run_events::{Before, Interest};
 use scripts::{Visitor, process_of};
 use std::alloc::{AllocError, Global};
 use std::collections::HashSet;
@@ -100,7 +101,12 @@ impl Visitor for Nested {
     type Fault = Fault;
 
     fn before(&mut self, core: &Core, event: Event) -> Result<(), Fault> {
-        self.asked.before(self.alloc, core, event)?;
+        if let Event::Enter { .. } = event {
+            let before = Before::new(self.alloc, core, event, Interest::Record)?;
+            if let Some(request) = &before.request {
+                self.asked.add(self.alloc, request)?;
+            }
+        }
         self.mirror.before(core, event)
     }
 

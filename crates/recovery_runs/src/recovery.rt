@@ -1,16 +1,15 @@
 //! The user's recovery.
 use crash_points::Promise;
-use elf32::write;
 use exec_files::LoadedProgram;
 use exec_reports::Family;
-use scripts::Setup;
+use machine_model::Image;
+use scripts::Launch;
 use std::alloc::{AllocError, Global};
 
 /// The program that is run after each crash, and how far.
 #[derive(Drop)]
 pub struct RecoveryProgram {
-    /// The file of its image.
-    file: Vec<u8>,
+    image: Image,
     /// How many instructions a run of it may have.
     pub limit: u64,
     /// How many crashes of recoveries may come one after the other.
@@ -33,12 +32,12 @@ impl Recovery {
         limit: u64,
         nested: u32,
     ) -> Result<Recovery, AllocError> {
-        let file = write(alloc, &program.image)?;
+        let image = program.image.try_clone(alloc)?;
         let mut programs = Vec::new(alloc);
         programs.push(program)?;
         Ok(Recovery {
             program: RecoveryProgram {
-                file,
+                image,
                 limit,
                 nested,
             },
@@ -49,10 +48,9 @@ impl Recovery {
 
 impl RecoveryProgram {
     /// What a run of it begins with beside the files that a crash left: the promise on its tape.
-    pub fn setup(&self, alloc: Global, promise: &Promise) -> Result<Setup, AllocError> {
-        let mut setup = Setup::new(alloc);
-        setup.push_binary(Vec::from_slice(alloc, self.file.as_slice())?)?;
-        setup.push_tape(Some(0), Some(promise.tape(alloc)?))?;
-        Ok(setup)
+    pub fn launch(&self, alloc: Global, promise: &Promise) -> Result<Launch, AllocError> {
+        let mut launch = Launch::of_image(alloc, self.image.try_clone(alloc)?)?;
+        launch.tapes.push(Some(0), Some(promise.tape(alloc)?))?;
+        Ok(launch)
     }
 }

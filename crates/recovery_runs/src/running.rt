@@ -11,8 +11,8 @@ use crash_points::{CrashPoint, SpareDisk, play_some, play_to_end};
 use exec_reports::status_of_run;
 use faults::Fault;
 use kernel::{Core, SimDisk};
-use scripts::Setup;
-use std::rt::Files;
+use scripts::Launch;
+use std::alloc::Global;
 
 /// What came of a run of the recovery.
 #[derive(Drop)]
@@ -26,49 +26,49 @@ pub struct Ran {
 }
 
 /// The core after a crash of a recovery that was just booted.
-fn crashed<R: Files + AllocGlobal>(
-    rt: &R,
-    setup: &mut Setup,
+fn crashed(
+    alloc: Global,
+    launch: &Launch,
     core: Core,
     point: &CrashPoint,
     limit: u64,
 ) -> Result<Core, Fault> {
     let mut core = core;
     play_some(&mut core, limit, point.events())?;
-    setup.boot(rt, Some(core.halt(point.fill().bytes())))
+    launch.boot(alloc, Some(core.halt(point.fill().bytes())))
 }
 
 /// The core after the crashes of a chain, booted first on this disk, or on one with the files that are set up.
-fn reach<R: Files + AllocGlobal>(
-    rt: &R,
-    setup: &mut Setup,
+fn reach(
+    alloc: Global,
+    launch: &Launch,
     first: Option<SimDisk>,
     chain: &[CrashPoint],
     limit: u64,
 ) -> Result<Core, Fault>
     requires { IfSome first (λ device. is_quiet device ≡ true) }
 {
-    let mut core = setup.boot(rt, first)?;
+    let mut core = launch.boot(alloc, first)?;
     for point in chain {
-        core = crashed(rt, setup, core, point, limit)?;
+        core = crashed(alloc, launch, core, point, limit)?;
     }
     Ok(core)
 }
 
 /// Runs the recovery on a disk after the crashes of a chain, and tries its crashes where more may come. The files are put on a disk that
 /// was used before.
-pub fn run_recovery<R: Files + AllocGlobal>(
-    rt: &R,
+pub fn run_recovery(
+    alloc: Global,
     program: &RecoveryProgram,
     disk: &Pending,
     chain: &[CrashPoint],
     spare: &mut SpareDisk,
 ) -> Result<Ran, Fault> {
-    let mut setup = program.setup(rt.alloc(), &disk.promise)?;
-    let device = spare.take(rt.alloc(), &disk.files)?;
-    let mut core = reach(rt, &mut setup, Some(device), chain, program.limit)?;
+    let launch = program.launch(alloc, &disk.promise)?;
+    let device = spare.take(alloc, &disk.files)?;
+    let mut core = reach(alloc, &launch, Some(device), chain, program.limit)?;
     let before = chain.len() as u64;
-    let mut nested = Nested::new(rt.alloc(), before, before < u64::from(program.nested));
+    let mut nested = Nested::new(alloc, before, before < u64::from(program.nested));
     let ending = play_to_end(&mut nested, &mut core, program.limit)?;
     let ran = nested.into_ran(status_of_run(&core, ending));
     spare.put_back(core.halt(&[]));
@@ -76,21 +76,21 @@ pub fn run_recovery<R: Files + AllocGlobal>(
 }
 
 /// Runs a recovery that fails once more, and gives what there is to tell of it.
-pub fn failure_of<R: Files + AllocGlobal>(
-    rt: &R,
+pub fn failure_of(
+    alloc: Global,
     program: &RecoveryProgram,
     disk: &Pending,
     chain: Vec<CrashPoint>,
 ) -> Result<Failure, Fault> {
-    let mut setup = program.setup(rt.alloc(), &disk.promise)?;
-    setup.files = disk.files.try_clone()?;
-    let mut core = reach(rt, &mut setup, None, chain.as_slice(), program.limit)?;
-    let mut nested = Nested::new(rt.alloc(), 0, false);
+    let mut launch = program.launch(alloc, &disk.promise)?;
+    launch.files = disk.files.try_clone()?;
+    let mut core = reach(alloc, &launch, None, chain.as_slice(), program.limit)?;
+    let mut nested = Nested::new(alloc, 0, false);
     let ending = play_to_end(&mut nested, &mut core, program.limit)?;
     Ok(Failure {
-        point: disk.point(rt.alloc())?,
+        point: disk.point(alloc)?,
         chain,
-        setup,
+        launch,
         core,
         ending,
     })

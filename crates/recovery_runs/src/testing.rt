@@ -277,7 +277,7 @@ impl<'a, R: Files + AllocGlobal, E: Write> Tester<'a, R, E> {
     fn failure_at(&self, disks: &[Pending], job: Job) -> Result<Failure, Fault> {
         let Job { disk, chain } = job;
         match disks.get(disk) {
-            Some(disk) => failure_of(self.rt, self.program, disk, chain),
+            Some(disk) => failure_of(self.rt.alloc(), self.program, disk, chain),
             None => Err(Fault::OutOfMemory),
         }
     }

@@ -2,8 +2,12 @@
 //! the run is over, so that a run that is refused or cut short leaves what was there.
 use command_line::ExecOptions;
 use exec_files::refused;
+use exec_records::{steps_of, write_script};
 use faults::Fault;
 use host_files::{OutputFile, Place};
+use kernel::Core;
+use pictured_runs::picture;
+use scripts::Launch;
 use std::alloc::Global;
 use std::rt::Files;
 
@@ -46,13 +50,11 @@ impl Taken {
             read: Vec::new(rt.alloc()),
             written: Vec::new(rt.alloc()),
         };
-        for path in options.run.images.as_slice() {
+        for path in options.run.programs.paths.as_slice() {
             taken.push_read(rt, *path)?;
         }
-        for path in options.run.tapes.as_slice() {
-            if let Some(path) = *path {
-                taken.push_read(rt, path)?;
-            }
+        for path in options.run.programs.tapes.as_slice() {
+            taken.push_read(rt, path.unwrap_or("-"))?;
         }
         if let Some(path) = options.run.disk {
             let lock = format!(in rt.alloc(); "{path}.lck")?;
@@ -63,31 +65,22 @@ impl Taken {
         Ok(taken)
     }
 
-    /// Why a file is not to be written here, if it is not.
-    fn fault_of(&self, place: &Place) -> Option<&'static str> {
-        if self.read.iter().any(|read| place.writes_over(read)) {
-            return Some("the run reads this file, and would write over it; name another");
-        }
-        for other in &self.written {
-            if place.writes_over(other) || other.writes_over(place) {
-                return Some(
-                    "the run would write two things to this file; name another for one of them",
-                );
-            }
-        }
-        None
-    }
-
     /// Takes the path of an output, if one is given. Refused is one that leads to a file of the run.
     fn take<R: Files + AllocGlobal>(&mut self, rt: &R, path: Option<&str>) -> Result<(), Fault> {
         let Some(path) = path else {
             return Ok(());
         };
         let place = Place::of(rt, path)?;
-        if let Some(why) = self.fault_of(&place) {
-            return Err(refused(rt.alloc(), path, why));
-        }
-        Ok(self.written.push(place)?)
+        let why = if self.read.iter().any(|read| place.writes_over(read)) {
+            "the run reads this file, and would write over it; name another"
+        } else if self.written.iter().any(|other| place.writes_over(other)
+            || other.writes_over(&place))
+        {
+            "the run would write two things to this file; name another for one of them"
+        } else {
+            return Ok(self.written.push(place)?);
+        };
+        Err(refused(rt.alloc(), path, why))
     }
 }
 
@@ -102,29 +95,46 @@ fn open<'a, R: Files + AllocGlobal>(
     }
 }
 
-/// Empties a file, if it is open.
-fn empty<R: Files + AllocGlobal>(file: &Option<OutputFile<'_, R>>) -> Result<(), Fault> {
-    match file {
-        Some(file) => file.empty(),
-        None => Ok(()),
-    }
-}
-
 impl<'a, R: Files + AllocGlobal> Outputs<'a, R> {
-    /// Opens the files that a run is to write. Refused where one leads to a file that the run reads, or to another of them.
+    /// Opens the files that a run is to write. Refused if one leads to a file that the run reads, or to another of them.
     pub fn open(rt: &'a R, options: &ExecOptions<'a>) -> Result<Outputs<'a, R>, Fault> {
         let mut taken = Taken::new(rt, options)?;
-        taken.take(rt, options.record)?;
-        taken.take(rt, options.picture)?;
-        taken.take(rt, options.log)?;
+        for path in [options.record, options.picture, options.log] {
+            taken.take(rt, path)?;
+        }
         let outputs = Outputs {
             record: open(rt, options.record)?,
             picture: open(rt, options.picture)?,
             log: open(rt, options.log)?,
         };
-        empty(&outputs.record)?;
-        empty(&outputs.picture)?;
-        empty(&outputs.log)?;
+        for file in [&outputs.record, &outputs.picture, &outputs.log] {
+            if let Some(file) = file {
+                file.empty()?;
+            }
+        }
         Ok(outputs)
+    }
+
+    /// Puts the log of a run of what is set up in its place, and the script and the picture, each if it is wanted.
+    pub fn keep(mut self, rt: &R, launch: Option<Launch>, core: &Core) -> Result<(), Fault> {
+        if let Some(log) = self.log.take() {
+            log.keep()?;
+        }
+        let Some(launch) = launch else {
+            return Ok(());
+        };
+        let alloc = rt.alloc();
+        if let Some(record) = self.record.take() {
+            let mut script: Vec<u8> = Vec::new(alloc);
+            write_script(alloc, &launch, core, &mut script)?;
+            record.keep_with(script.as_slice())?;
+        }
+        if let Some(drawn) = self.picture.take() {
+            let steps = steps_of(alloc, core.history())?;
+            let mut svg: Vec<u8> = Vec::new(alloc);
+            picture(alloc, &launch, steps.as_slice(), None, &mut svg)?;
+            drawn.keep_with(svg.as_slice())?;
+        }
+        Ok(())
     }
 }

@@ -3,16 +3,11 @@
 //! Read `run_images` and `execute` first. Only safety is proved of them; what they read and print is tested.
 #![tactic(auto)]
 
-mod exec_keeping;
 mod exec_outputs;
-mod executables;
 mod executing;
-mod execution;
-mod fault;
 mod logs;
 mod observing;
 mod running;
-mod showing;
 
 pub use executing::execute;
 pub use logs::{LogPaths, diff_files};

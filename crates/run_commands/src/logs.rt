@@ -32,37 +32,20 @@ fn log_in<R: Files + AllocGlobal>(rt: &R, path: &str) -> Result<BufReader<R::Fil
     Ok(BufReader::new(rt.alloc(), file)?)
 }
 
-/// Prints what a program has at an address.
-fn print_place<O: Write>(places: &Places, address: u32, out: &mut O) -> io::Result<()> {
-    let place = PlaceText { places, address };
-    writeln!(out, "at {address:08x}{place}")
-}
-
-/// Prints where in a program the instructions stand in which logs differ: once where their address is the same.
+/// Prints where in a program the logs differ: once if both have the same address there.
 fn print_places<O: Write>(places: &Places, difference: &Difference, out: &mut O) -> io::Result<()> {
-    let first = difference.first.map(|line| line.at);
-    let second = difference.second.map(|line| line.at);
-    if let Some(address) = first {
-        print_place(places, address, out)?;
+    let mut last = None;
+    for line in [difference.first, difference.second] {
+        if let Some(line) = line
+            && last != Some(line.at)
+        {
+            let address = line.at;
+            last = Some(address);
+            let place = PlaceText { places, address };
+            writeln!(out, "at {address:08x}{place}")?;
+        }
     }
-    match second {
-        Some(address) if second != first => print_place(places, address, out),
-        _ => Ok(()),
-    }
-}
-
-/// Prints the difference of two logs, and where it is in their program, if that is named.
-fn print_difference<O: Write>(
-    paths: LogPaths<'_>,
-    places: Option<&Places>,
-    difference: &Difference,
-    out: &mut O,
-) -> io::Result<()> {
-    difference.print(paths.first, paths.second, out)?;
-    match places {
-        Some(places) => print_places(places, difference, out),
-        None => Ok(()),
-    }
+    Ok(())
 }
 
 /// Compares two logs of a program.
@@ -74,18 +57,15 @@ fn diff_logs<R: Files + AllocGlobal, O: Write>(
 ) -> Result<(), Fault> {
     let alloc = rt.alloc();
     let (first, second) = (log_in(rt, paths.first)?, log_in(rt, paths.second)?);
-    let compared = match compare(alloc, first, second) {
-        Ok(compared) => compared,
-        Err((side, error)) => return Err(Fault::from(error).at(alloc, paths.of(side))),
-    };
-    match compared {
-        Compared::NoLog(side) => Err(Fault::from(Refusal::Log).at(alloc, paths.of(side))),
-        Compared::Equal(count) => {
-            writeln!(out, "equal, {count} instructions")?;
-            Ok(())
-        }
-        Compared::Different(difference) => {
-            print_difference(paths, places, &difference, out)?;
+    match compare(alloc, first, second) {
+        Err((side, error)) => Err(Fault::from(error).at(alloc, paths.of(side))),
+        Ok(Compared::NoLog(side)) => Err(Fault::from(Refusal::Log).at(alloc, paths.of(side))),
+        Ok(Compared::Equal(count)) => Ok(writeln!(out, "equal, {count} instructions")?),
+        Ok(Compared::Different(difference)) => {
+            difference.print(paths.first, paths.second, out)?;
+            if let Some(places) = places {
+                print_places(places, &difference, out)?;
+            }
             Err(Fault::from(Refusal::Logs {
                 instruction: difference.number,
             }))

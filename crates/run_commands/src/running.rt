@@ -1,9 +1,8 @@
 //! The command `run`: runs images by many workers, prints how processes stand, keeps the disk, and gives the exit status.
-use crate::fault::of_run;
 use command_line::{RunNumbers, RunOptions};
 use durable_disk::HostFile;
 use exec_runs::status_of;
-use executor::{Run, Settings};
+use executor::{Run, RunFault, Settings};
 use faults::{Fault, Refusal};
 use kernel::Core;
 use run_files::{boot, keep_disk, of_disk, print_processes};
@@ -13,12 +12,16 @@ use std::rt::Files;
 use std::sync::Wait;
 use std::thread::Threads;
 
-pub fn settings_of(numbers: RunNumbers) -> Settings {
-    Settings {
-        workers: numbers.workers,
-        quantum: numbers.quantum,
-        terminal: numbers.terminal,
-        fail: numbers.fail,
+/// A core before its run, and the file that holds its disk, if the run is durable.
+pub type Booted = (Core, Option<HostFile>);
+
+/// The program's fault if a run ends early.
+pub fn of_run(fault: RunFault) -> Fault {
+    match fault {
+        RunFault::OutOfMemory => Fault::OutOfMemory,
+        RunFault::DiskFailed => Fault::from(Refusal::DiskFailed),
+        // (the system's reason is not known)
+        RunFault::Output => Fault::from(Refusal::Output),
     }
 }
 
@@ -28,34 +31,34 @@ fn has_failed(core: &Core) -> bool {
     core.committed() < core.changes()
 }
 
-/// Runs a core to its end. What terminals show goes out.
-fn run_on<R: Threads + Wait + Sync + AllocGlobal, O: Write>(
+/// Runs a core to its end by worker threads. What terminals show goes out.
+pub fn run_on<R: Threads + Wait + Sync + AllocGlobal, O: Write>(
     rt: &R,
-    settings: Settings,
-    booted: (Core, Option<HostFile>),
+    numbers: RunNumbers,
+    booted: Booted,
     out: &mut O,
 ) -> Result<Core, Fault> {
+    let settings = Settings {
+        workers: numbers.workers,
+        quantum: numbers.quantum,
+        terminal: numbers.terminal,
+        fail: numbers.fail,
+    };
     let (core, file) = booted;
     let mut run = Run::new(rt.alloc(), settings, out).on_file(file);
     let core = run.to_end(rt, core).map_err(of_run)?;
     Ok(core)
 }
 
-/// Runs a core to its end, tells of its processes, and keeps its disk, if it is to be kept at the end.
-fn run_to_end<R: Files<File = File> + AllocGlobal + Threads + Wait + Sync, O: Write, E: Write>(
+/// Keeps the disk that a run leaves, if it is to be kept at the end, also if its lines did not go out. DiskFailed, after all else, if a
+/// write of the disk has failed.
+pub fn keep_end<R: Files<File = File> + AllocGlobal>(
     rt: &R,
     options: &RunOptions<'_>,
     core: Core,
-    file: Option<HostFile>,
-    explain: bool,
-    out: &mut O,
-    err: &mut E,
-) -> Result<u8, Fault> {
-    let core = run_on(rt, settings_of(options.numbers), (core, file), out)?;
-    out.flush()?;
-    let told = print_processes(&core, explain, err);
-    let has_failed = has_failed(&core);
-    let status = options.status.map_or(0, |pid| status_of(&core, pid));
+    has_failed: bool,
+    told: Result<(), Fault>,
+) -> Result<(), Fault> {
     if !options.is_durable {
         keep_disk(rt, options.disk, core)?;
     }
@@ -63,6 +66,24 @@ fn run_to_end<R: Files<File = File> + AllocGlobal + Threads + Wait + Sync, O: Wr
     if has_failed {
         return Err(Fault::from(Refusal::DiskFailed));
     }
+    Ok(())
+}
+
+/// Runs a core to its end, tells of its processes, and keeps its disk, if it is to be kept at the end.
+fn run_to_end<R: Files<File = File> + AllocGlobal + Threads + Wait + Sync, O: Write, E: Write>(
+    rt: &R,
+    options: &RunOptions<'_>,
+    booted: Booted,
+    explain: bool,
+    out: &mut O,
+    err: &mut E,
+) -> Result<u8, Fault> {
+    let core = run_on(rt, options.numbers, booted, out)?;
+    out.flush()?;
+    let told = print_processes(&core, explain, err);
+    let has_failed = has_failed(&core);
+    let status = options.status.map_or(0, |pid| status_of(&core, pid));
+    keep_end(rt, options, core, has_failed, told)?;
     Ok(status)
 }
 
@@ -85,7 +106,7 @@ pub fn run_images<
     err: &mut E,
 ) -> Result<u8, Fault> {
     let (core, lock, file) = boot(rt, options, input)?;
-    let done = run_to_end(rt, options, core, file, explain, out, err);
+    let done = run_to_end(rt, options, (core, file), explain, out, err);
     if let Some(lock) = lock {
         lock.release(rt);
     }

@@ -9,6 +9,7 @@ mod laws;
 mod playing;
 mod sources;
 
+pub use before::Before;
 pub use both::{Both, Nobody};
 pub use call_site::CallSite;
 pub use event_record::{EventRecord, Output, Told};

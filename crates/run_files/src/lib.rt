@@ -9,7 +9,7 @@ mod setup;
 mod subject;
 
 pub use folders::make_folder;
-pub use inputs::{Input, program_in, tapes_in};
+pub use inputs::{Input, program_in};
 pub use process_lines::print_processes;
 pub use setup::{Booted, boot, boot_on, keep_disk, of_disk};
-pub use subject::{Subject, of_subject, setup_of, subject_in};
+pub use subject::{Subject, of_subject, subject_in};

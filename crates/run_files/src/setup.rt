@@ -1,34 +1,29 @@
 //! `boot`: the core of a run of images, from files of the host. `keep_disk`: the disk that a run leaves, in its file.
-ghost use Rattle.std.specs.Prelude.{◌≡◌, ◌≤◌, ◌<◌, length, IfOk};
-ghost use Rattle.std.specs.List.{AllByRecursion};
-ghost use Rattle.kernel_model.specs.World.{most_programs, tape_count, terminal_count};
-
 use crate::inputs::{Input, tapes_in};
+use crate::subject::launch_of;
 use byte_list::Bytes;
-use command_line::RunOptions;
+use command_line::{ProgramOptions, RunOptions};
 use durable_disk::HostFile;
 use faults::{Fault, Role};
-use host_files::{DiskLock, disk_or_zeros, image_in, keep, open_durable, test_place, zeros};
-use kernel::{Core, Program};
-use scripts::boot_fault;
+use host_files::{DiskLock, disk_or_zeros, image_in, keep, open_durable, test_place};
+use kernel::Core;
+use scripts::Launch;
 use std::alloc::Global;
 use std::fs::File;
 use std::io::Read;
 use std::rt::Files;
 
-/// The programs of images, each with the terminal of its place.
-fn programs_in<R: Files + AllocGlobal>(rt: &R, paths: &[&str]) -> Result<Vec<Program>, Fault>
-    requires few { length paths.now ≤ most_programs }
-    ensures len { IfOk result (λ programs. length programs.items ≡ length paths.now) }
-    ensures terminals { IfOk result (λ programs. AllByRecursion (λ p. p.terminal < terminal_count) programs.items) }
-{
-    let mut programs = Vec::new(rt.alloc());
+/// A launch of the images in files, read in order.
+fn launch_in<R: Files + AllocGlobal>(
+    rt: &R,
+    paths: &[&str],
+    tapes: &[Bytes],
+) -> Result<Launch, Fault> {
+    let mut images = Vec::new(rt.alloc());
     for path in paths {
-        let terminal = programs.len() as u32;
-        let image = image_in(rt, path)?;
-        programs.push(Program { image, terminal })?;
+        images.push(image_in(rt, path)?)?;
     }
-    Ok(programs)
+    launch_of(rt.alloc(), images, tapes)
 }
 
 /// What a run begins with: its core; the lock of its disk's file, if the disk is kept; and that file, of a durable run.
@@ -40,21 +35,15 @@ fn core_at<R: Files<File = File> + AllocGlobal>(
     rt: &R,
     path: &str,
     is_durable: bool,
-    programs: Vec<Program>,
-    tapes: Vec<Bytes>,
-) -> Result<(Core, Option<HostFile>), Fault>
-    requires tapes { length tapes.items ≤ tape_count }
-    requires some { 1 ≤ length programs.items }
-    requires programs { length programs.items ≤ most_programs }
-    requires terminals { AllByRecursion (λ p. p.terminal < terminal_count) programs.items }
-{
+    launch: &Launch,
+) -> Result<(Core, Option<HostFile>), Fault> {
     if is_durable {
         let (file, device) = open_durable(rt, path)?;
-        let core = Core::boot(rt.alloc(), device, programs, tapes).map_err(boot_fault)?;
+        let core = launch.boot(rt.alloc(), Some(device))?;
         return Ok((core, Some(file)));
     }
     let device = disk_or_zeros(rt, path)?;
-    let core = Core::boot(rt.alloc(), device, programs, tapes).map_err(boot_fault)?;
+    let core = launch.boot(rt.alloc(), Some(device))?;
     test_place(rt, path)?;
     Ok((core, None))
 }
@@ -82,21 +71,15 @@ fn setup_at<R: Files<File = File> + AllocGlobal>(
     rt: &R,
     path: &str,
     is_durable: bool,
-    programs: Vec<Program>,
-    tapes: Vec<Bytes>,
-) -> Result<Booted, Fault>
-    requires tapes { length tapes.items ≤ tape_count }
-    requires some { 1 ≤ length programs.items }
-    requires programs { length programs.items ≤ most_programs }
-    requires terminals { AllByRecursion (λ p. p.terminal < terminal_count) programs.items }
-{
+    launch: &Launch,
+) -> Result<Booted, Fault> {
     let lock = match DiskLock::take(rt, path) {
         Ok(lock) => lock,
         Err(fault) => {
             return Err(refusal_at(rt, path, fault).of(rt.alloc(), Role::Disk, path));
         }
     };
-    match core_at(rt, path, is_durable, programs, tapes) {
+    match core_at(rt, path, is_durable, launch) {
         Ok((core, file)) => Ok((core, Some(lock), file)),
         Err(fault) => {
             lock.release(rt);
@@ -112,30 +95,21 @@ pub fn boot<R: Files<File = File> + AllocGlobal, I: Read>(
     options: &RunOptions<'_>,
     input: &mut I,
 ) -> Result<Booted, Fault> {
-    let tapes = tapes_in(rt, options.tapes.as_slice(), &mut Input::new(input))?;
-    let programs = programs_in(rt, options.images.as_slice())?;
-    boot_on(rt, options, programs, tapes)
+    let ProgramOptions { paths, tapes } = &options.programs;
+    let tapes = tapes_in(rt, tapes.as_slice(), &mut Input::new(input))?;
+    let launch = launch_in(rt, paths.as_slice(), tapes.as_slice())?;
+    boot_on(rt, options, &launch)
 }
 
-/// Boots the core of a run of these programs with these tapes. All goes on as by `boot` where these are read.
+/// Boots the core of a run that was read. All goes on as by `boot` once it has read the images.
 pub fn boot_on<R: Files<File = File> + AllocGlobal>(
     rt: &R,
     options: &RunOptions<'_>,
-    programs: Vec<Program>,
-    tapes: Vec<Bytes>,
-) -> Result<Booted, Fault>
-    requires tapes { length tapes.items ≤ tape_count }
-    requires some { 1 ≤ length programs.items }
-    requires programs { length programs.items ≤ most_programs }
-    requires terminals { AllByRecursion (λ p. p.terminal < terminal_count) programs.items }
-{
+    launch: &Launch,
+) -> Result<Booted, Fault> {
     match options.disk {
-        Some(path) => setup_at(rt, path, options.is_durable, programs, tapes),
-        None => {
-            let device = zeros(rt.alloc())?;
-            let core = Core::boot(rt.alloc(), device, programs, tapes).map_err(boot_fault)?;
-            Ok((core, None, None))
-        }
+        Some(path) => setup_at(rt, path, options.is_durable, launch),
+        None => Ok((launch.boot(rt.alloc(), None)?, None, None)),
     }
 }
 

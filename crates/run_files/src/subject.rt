@@ -7,10 +7,11 @@ use crate::setup::of_disk;
 use byte_list::Bytes;
 use command_line::ProgramOptions;
 use exec_files::{LoadedProgram, program_of, refused};
-use faults::{Fault, Role};
+use faults::{Fault, Refusal, Role};
 use host_files::{FileKind, disk_or_zeros, kind_of, text_of_file};
 use kernel::{Core, SimDisk};
-use scripts::{Script, Setup, Step};
+use machine_model::Image;
+use scripts::{Launch, Script, Step};
 use std::alloc::{AllocError, Global};
 use std::io::Read;
 use std::rt::Files;
@@ -18,31 +19,46 @@ use std::rt::Files;
 /// What a command runs: programs, or what a script sets up and does.
 #[derive(Drop)]
 pub struct Subject {
-    pub setup: Setup,
+    pub launch: Launch,
     /// None of programs, and of set-up lines alone: they are run to their end.
     pub steps: Vec<Step>,
     /// What is known of the programs, in order; none of a script's.
     pub programs: Vec<LoadedProgram>,
 }
 
-/// What programs set up, with their tapes.
-pub fn setup_of(
-    alloc: Global,
-    programs: &[LoadedProgram],
-    tapes: &[Bytes],
-) -> Result<Setup, AllocError> {
-    let mut setup = Setup::new(alloc);
-    for program in programs {
-        setup.push_binary(elf32::write(alloc, &program.image)?)?;
+/// A launch of these images with these tapes, in order. There are 1 to 8 images, which the command line sees to.
+pub fn launch_of(alloc: Global, images: Vec<Image>, tapes: &[Bytes]) -> Result<Launch, Fault> {
+    let mut launch = None;
+    for image in images {
+        match &mut launch {
+            None => launch = Some(Launch::of_image(alloc, image)?),
+            Some(launch) => {
+                launch.push_image(image)?;
+            }
+        }
     }
+    let Some(mut launch) = launch else {
+        return Err(Fault::from(Refusal::NoProgram));
+    };
     let mut number = 0u32;
     for tape in tapes {
         if !tape.as_slice().is_empty() {
-            setup.push_tape(Some(number), Some(tape.try_clone(alloc)?))?;
+            launch
+                .tapes
+                .push(Some(number), Some(tape.try_clone(alloc)?))?;
         }
         number = number.saturating_add(1);
     }
-    Ok(setup)
+    Ok(launch)
+}
+
+/// Copies of the images of programs.
+fn images_of(alloc: Global, programs: &[LoadedProgram]) -> Result<Vec<Image>, AllocError> {
+    let mut images = Vec::new(alloc);
+    for program in programs {
+        images.push(program.image.try_clone(alloc)?)?;
+    }
+    Ok(images)
 }
 
 /// Refuses tapes beside a script.
@@ -53,25 +69,29 @@ fn test_no_tapes(alloc: Global, options: &ProgramOptions<'_>, name: &str) -> Res
     Err(refused(
         alloc,
         name,
-        "a script has tapes of its own; --tape is for programs",
+        "a script has tapes of its own; --tape and --tape-of are for programs",
     ))
 }
 
-/// The script of these bytes of a file.
-fn subject_of_script(
-    alloc: Global,
+/// The script of these bytes of a file, with the images that it names.
+fn subject_of_script<R: Files + AllocGlobal>(
+    rt: &R,
     options: &ProgramOptions<'_>,
     name: &str,
     file: &[u8],
 ) -> Result<Subject, Fault> {
+    let alloc = rt.alloc();
     let text = text_of_file(alloc, name, file)?;
     test_no_tapes(alloc, options, name)?;
     let (setup, steps) = Script::of_file(alloc, name, text)?.into_parts();
-    Ok(Subject {
-        setup,
-        steps,
-        programs: Vec::new(alloc),
-    })
+    match setup.read(rt) {
+        Ok(launch) => Ok(Subject {
+            launch,
+            steps,
+            programs: Vec::new(alloc),
+        }),
+        Err(fault) => Err(fault.of(alloc, Role::Script, name)),
+    }
 }
 
 /// What a command runs: the programs of its options, of whatever kinds, with their tapes, or the script of its only file. What a file is
@@ -87,14 +107,20 @@ pub fn subject_in<R: Files + AllocGlobal, I: Read>(
     for path in paths {
         let file = file_in(rt, path, input)?;
         let (name, file) = (name_of(path), file.as_slice());
-        if paths.len() == 1 && kind_of(file) == FileKind::Script {
-            return subject_of_script(alloc, options, name, file);
+        match (kind_of(file), paths) {
+            (FileKind::Script, [_]) => return subject_of_script(rt, options, name, file),
+            (FileKind::Script, _) => {
+                let why = "this is a script, which is given alone";
+                return Err(refused(alloc, name, why));
+            }
+            _ => {}
         }
         programs.push(program_of(alloc, name, file)?)?;
     }
     let tapes = tapes_in(rt, options.tapes.as_slice(), input)?;
+    let images = images_of(alloc, programs.as_slice())?;
     Ok(Subject {
-        setup: setup_of(alloc, programs.as_slice(), tapes.as_slice())?,
+        launch: launch_of(alloc, images, tapes.as_slice())?,
         steps: Vec::new(alloc),
         programs,
     })
@@ -123,26 +149,30 @@ fn device_in<R: Files + AllocGlobal>(rt: &R, path: Option<&str>) -> Result<Optio
 }
 
 impl Subject {
-    fn boot<R: Files + AllocGlobal>(&mut self, rt: &R, disk: Option<&str>) -> Result<Core, Fault> {
+    /// Refuses a disk that is given beside a script, which has its own.
+    pub fn test_disk(&self, alloc: Global, path: Option<&str>) -> Result<(), Fault> {
+        match path {
+            Some(path) if self.programs.is_empty() => {
+                let why = "a script has a disk of its own; --disk is for programs";
+                Err(refused(alloc, path, why))
+            }
+            _ => Ok(()),
+        }
+    }
+
+    fn boot<R: Files + AllocGlobal>(&self, rt: &R, disk: Option<&str>) -> Result<Core, Fault> {
         let device = device_in(rt, disk)?;
-        self.setup.boot(rt, device)
+        self.launch.boot(rt.alloc(), device)
     }
 
     /// Boots it on the disk in a file, which is zeros if there is none, and is not written; or, if no path is given, on a new one. Refused is a
     /// script that is to have another disk than its own.
     pub fn boot_on<R: Files + AllocGlobal>(
-        &mut self,
+        &self,
         rt: &R,
         disk: Option<&str>,
     ) -> Result<Core, Fault> {
-        let alloc = rt.alloc();
-        match disk {
-            Some(path) if self.programs.is_empty() => Err(refused(
-                alloc,
-                path,
-                "a script has a disk of its own; --disk is for programs",
-            )),
-            disk => of_disk(alloc, disk, self.boot(rt, disk)),
-        }
+        self.test_disk(rt.alloc(), disk)?;
+        of_disk(rt.alloc(), disk, self.boot(rt, disk))
     }
 }

@@ -3,7 +3,7 @@ use crate::changes::change_of;
 use crate::cones::{last_cone, needs_of};
 use crate::crash::{copy_of, outcomes};
 use crate::data::{BootData, EndData, ProcessData, RefusedData};
-use crate::deeds::{Before, deed_of};
+use crate::deeds::deed_of;
 use crate::event_data::EventData;
 use crate::file_data::ChangeData;
 use crate::outputs::OutputNotes;
@@ -12,7 +12,8 @@ use crate::versions::FileVersions;
 use crate::writes::WriteNotes;
 use faults::Fault;
 use files::FileList;
-use kernel::{Answer, Core, Event};
+use kernel::{Core, Event};
+use run_events::EventRecord;
 use scripts::{AnswerText, EventText, process_of};
 use std::alloc::{AllocError, Global};
 use std::collections::BTreeMap;
@@ -67,34 +68,31 @@ impl BootRecorder {
             first_crash: copy_of(alloc, crash.as_slice())?,
             crash,
         };
-        recorder.note_processes(seen, 0)?;
+        for pid in 1..=core.tables().processes.len() as u32 {
+            recorder.note_process(seen, pid, 0)?;
+        }
         Ok(recorder)
     }
 
-    /// Notes the processes that are new, which this one made.
-    fn note_processes(&mut self, seen: Seen<'_>, parent: u32) -> Result<(), AllocError> {
-        let core = seen.core;
-        let known = self.processes.last().map_or(0, |process| process.p);
-        for pid in known.saturating_add(1)..u32::MAX {
-            if core.tables().processes.descriptors(pid).is_none() {
-                break;
-            }
+    /// Notes a process that is new, and its parent, 0 at the boot.
+    fn note_process(&mut self, seen: Seen<'_>, pid: u32, parent: u32) -> Result<(), AllocError> {
+        Ok(
             self.processes.push(ProcessData {
                 p: pid,
-                e: core.history().len() as u64,
+                e: seen.core.history().len() as u64,
                 parent,
                 at: place_of(self.alloc, seen, pid, &Registers::zero())?,
-            })?;
-        }
-        Ok(())
+            })?,
+        )
     }
 
     /// Notes the change that an event made, if it made one.
-    fn note_change(&mut self, core: &Core, before: &Before) -> Result<(), AllocError> {
-        if core.changes() <= self.changes.len() as u64 {
+    fn note_change(&mut self, core: &Core, done: &EventRecord<'_>) -> Result<(), AllocError> {
+        let Some(change) = done.change else {
             return Ok(());
-        }
-        self.changes.push(change_of(self.alloc, core, before)?)?;
+        };
+        self.changes
+            .push(change_of(self.alloc, core, done, change)?)?;
         self.versions.push(self.alloc, core.tables().files.list())
     }
 
@@ -108,25 +106,24 @@ impl BootRecorder {
         Ok(())
     }
 
-    /// What an event did that the core accepted last, with its cone.
+    /// What an event did that the core accepted last, with its cone. The registers of its process held this before.
     fn event_of(
         &self,
         seen: Seen<'_>,
-        answer: Answer,
-        before: Before,
+        done: &EventRecord<'_>,
+        registers: &Registers,
         cone: BTreeMap<u32, u64>,
     ) -> Result<EventData, AllocError> {
         let (alloc, core) = (self.alloc, seen.core);
-        let p = before.pid();
-        let at = place_of(alloc, seen, p, &before.registers)?;
-        let (line, text) = (EventText(before.event), AnswerText(answer));
+        let p = done.process();
+        let (line, text) = (EventText(done.event), AnswerText(done.answer));
         Ok(EventData {
             n: core.history().len() as u64,
             line: format!(in alloc; "{line}")?,
             answer: format!(in alloc; "{text}")?,
             p,
-            deed: deed_of(alloc, core, answer, before)?,
-            at,
+            deed: deed_of(alloc, core, done)?,
+            at: place_of(alloc, seen, p, registers)?,
             changes: core.changes(),
             committed: core.committed(),
             cone,
@@ -134,21 +131,23 @@ impl BootRecorder {
         })
     }
 
-    /// Notes an event that the core accepted last.
+    /// Notes an event that the core accepted last. The registers of its process held this before.
     pub fn push_event(
         &mut self,
         seen: Seen<'_>,
-        answer: Answer,
-        before: Before,
+        done: &EventRecord<'_>,
+        registers: &Registers,
     ) -> Result<(), Fault> {
         let core = seen.core;
-        self.note_processes(seen, before.pid())?;
-        self.note_change(core, &before)?;
-        self.note_disk(core, before.event)?;
-        let cone = last_cone(self.alloc, core, before.event)?;
+        if let Some(child) = done.child {
+            self.note_process(seen, child, done.process())?;
+        }
+        self.note_change(core, done)?;
+        self.note_disk(core, done.event)?;
+        let cone = last_cone(self.alloc, core, done.event)?;
         let needs = needs_of(&cone, self.changes.as_slice());
-        self.outputs.note(self.alloc, core, needs)?;
-        let event = self.event_of(seen, answer, before, cone)?;
+        self.outputs.note(self.alloc, core, done.output, needs)?;
+        let event = self.event_of(seen, done, registers, cone)?;
         Ok(self.events.push(event)?)
     }
 

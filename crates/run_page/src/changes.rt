@@ -1,90 +1,80 @@
 //! What a change does.
-use crate::deeds::Before;
 use crate::file_data::{ChangeData, ChangeDeed};
 use byte_list::Bytes;
+use disk_model::Change;
 use kernel::Core;
-use kernel_model::{Descriptor, Request};
+use kernel_model::Request;
+use run_events::EventRecord;
 use std::alloc::{AllocError, Global};
 
-/// Bytes that a call names, if the process may read them.
-fn bytes_of(bytes: &Option<Bytes>) -> &[u8] {
+/// The name of the file at a place; empty if there is none.
+fn name_at(core: &Core, place: u16) -> &[u8] {
+    let files = core.tables().files.list();
+    if usize::from(place) < files.count() {
+        files.name(usize::from(place))
+    } else {
+        &[]
+    }
+}
+
+/// The first so many bytes that a call names, if the process may read them.
+fn first_bytes(bytes: &Option<Bytes>, count: u32) -> &[u8] {
     match bytes {
-        Some(bytes) => bytes.as_slice(),
+        Some(bytes) => {
+            let bytes = bytes.as_slice();
+            bytes.get(..count as usize).unwrap_or(bytes)
+        }
         None => &[],
     }
 }
 
-/// The name of the file of this number; nothing where it does not live.
-fn name_of(alloc: Global, core: &Core, file: u64) -> Result<String, AllocError> {
-    let files = core.tables().files;
-    match files.place(file) {
-        Some(place) => String::from_utf8_lossy(alloc, files.name(place)),
-        None => Ok(String::new(alloc)),
+/// The name that a file had before the call by which it is gone, or has another one.
+fn old_name<'a>(request: Option<&'a Request>) -> &'a [u8] {
+    match request {
+        Some(Request::Unlink { name, .. }) => first_bytes(name, u32::MAX),
+        Some(Request::Rename { n, names, .. }) => first_bytes(names, *n),
+        _ => &[],
     }
 }
 
-/// The write of so many bytes, which moved the descriptor on behind them.
-fn write_of(
+/// What a change does, and the name of its file.
+fn deed_of<'a>(
+    alloc: Global,
+    core: &'a Core,
+    change: &'a Change,
+    request: Option<&'a Request>,
+) -> Result<(&'a [u8], ChangeDeed), AllocError> {
+    Ok(match change {
+        Change::Create(name) => (name.as_slice(), ChangeDeed::Make),
+        Change::Write {
+            file,
+            offset,
+            bytes,
+        } => {
+            let (at, bytes) = (*offset, bytes.as_slice().len() as u32);
+            (name_at(core, *file), ChangeDeed::Write { at, bytes })
+        }
+        Change::Empty(file) => (name_at(core, *file), ChangeDeed::Empty),
+        Change::Remove(_) => (old_name(request), ChangeDeed::Remove),
+        Change::Rename { name, .. } => {
+            let to = String::from_utf8_lossy(alloc, name.as_slice())?;
+            (old_name(request), ChangeDeed::Rename { to })
+        }
+    })
+}
+
+/// The change that the last event of a core made.
+pub fn change_of(
     alloc: Global,
     core: &Core,
-    descriptor: Option<Descriptor>,
-    bytes: u32,
-) -> Result<(String, ChangeDeed), AllocError> {
-    match descriptor {
-        Some(Descriptor::File { file, offset, .. }) => {
-            let at = offset.saturating_sub(bytes);
-            Ok((name_of(alloc, core, file)?, ChangeDeed::Write { at, bytes }))
-        }
-        _ => Ok((String::new(alloc), ChangeDeed::Other)),
-    }
-}
-
-/// A rename, by the two names one after the other.
-fn rename_of(alloc: Global, names: &[u8], length: u32) -> Result<(String, ChangeDeed), AllocError> {
-    let length = (length as usize).min(names.len());
-    let (from, to) = names.split_at(length);
-    let to = String::from_utf8_lossy(alloc, to)?;
-    Ok((
-        String::from_utf8_lossy(alloc, from)?,
-        ChangeDeed::Rename { to },
-    ))
-}
-
-/// What an open does: a file is made where one more was made than before.
-fn open_deed(core: &Core, before: &Before) -> ChangeDeed {
-    if core.tables().files.made() > before.made {
-        ChangeDeed::Make
-    } else {
-        ChangeDeed::Empty
-    }
-}
-
-/// The file of a change and what it does, by the call that made it.
-fn deed_of(
-    alloc: Global,
-    core: &Core,
-    before: &Before,
-) -> Result<(String, ChangeDeed), AllocError> {
-    let (name, deed) = match &before.request {
-        Some(Request::Write { fd, n, .. }) => {
-            let descriptor = core.tables().processes.descriptor(before.pid(), *fd);
-            return write_of(alloc, core, descriptor, *n);
-        }
-        Some(Request::Rename { n, names, .. }) => return rename_of(alloc, bytes_of(names), *n),
-        Some(Request::Open { name, .. }) => (name, open_deed(core, before)),
-        Some(Request::Unlink { name, .. }) => (name, ChangeDeed::Remove),
-        _ => return Ok((String::new(alloc), ChangeDeed::Other)),
-    };
-    Ok((String::from_utf8_lossy(alloc, bytes_of(name))?, deed))
-}
-
-/// The change that the last event of a core made, which was an Enter of a process.
-pub fn change_of(alloc: Global, core: &Core, before: &Before) -> Result<ChangeData, AllocError> {
-    let (file, deed) = deed_of(alloc, core, before)?;
+    done: &EventRecord<'_>,
+    change: &Change,
+) -> Result<ChangeData, AllocError> {
+    let (name, deed) = deed_of(alloc, core, change, done.request)?;
     Ok(ChangeData {
         e: core.history().len() as u64,
-        p: before.pid(),
-        file,
+        p: done.process(),
+        file: String::from_utf8_lossy(alloc, name)?,
         deed,
     })
 }

@@ -25,4 +25,4 @@ mod versions;
 mod waits;
 mod writes;
 
-pub use paging::{PagedScript, write_json, write_page};
+pub use paging::{PagedRun, write_json, write_page};

@@ -5,6 +5,7 @@ ghost use Rattle.std.specs.Prelude.{◌<◌};
 use crate::output_data::OutputData;
 use kernel::Core;
 use kernel_model::TERMINALS;
+use run_events::Output;
 use std::alloc::{AllocError, Global};
 
 /// An output that is held back.
@@ -22,8 +23,7 @@ struct Held {
 pub struct OutputNotes {
     outputs: Vec<OutputData>,
     held: Vec<Held>,
-    /// How many bytes were written to each terminal, and how many changes the last of them needs.
-    written: [usize; TERMINALS],
+    /// How many changes the last output of each terminal needs.
     needs: [u64; TERMINALS],
 }
 
@@ -32,7 +32,6 @@ impl Drop for OutputNotes {
         let OutputNotes {
             outputs: _outputs,
             held: _held,
-            written: _,
             needs: _,
         } = self;
     }
@@ -49,7 +48,6 @@ impl OutputNotes {
         OutputNotes {
             outputs: Vec::new(alloc),
             held: Vec::new(alloc),
-            written: [0; TERMINALS],
             needs: [0; TERMINALS],
         }
     }
@@ -59,7 +57,6 @@ impl OutputNotes {
         let OutputNotes {
             outputs,
             held: _held,
-            written: _,
             needs: _,
         } = self;
         outputs
@@ -70,34 +67,29 @@ impl OutputNotes {
         self.held.len() as u64
     }
 
-    /// Notes what the last event of a core, which needs so many changes, wrote to a terminal, if it wrote anything.
+    /// Notes what the last event of a core, which needs so many changes, wrote to a terminal.
     fn note_written(
         &mut self,
         alloc: Global,
         core: &Core,
-        terminal: u32,
+        written: &Output<'_>,
         needs: u64,
-    ) -> Result<(), AllocError>
-        requires { terminal < terminal_count }
-    {
-        let before = self.written[terminal as usize];
-        let all = core.written(terminal);
-        let end = all.len();
-        if end <= before {
+    ) -> Result<(), AllocError> {
+        let terminal = written.terminal;
+        if terminal >= TERMINALS as u32 {
             return Ok(());
         }
         let needs = needs.max(self.needs[terminal as usize]);
-        self.written[terminal as usize] = end;
         self.needs[terminal as usize] = needs;
         self.held.push(Held {
             output: self.outputs.len(),
             terminal,
-            end,
+            end: core.written(terminal).len(),
         })?;
         self.outputs.push(OutputData {
             e: core.history().len() as u64,
             t: terminal,
-            hex: hex::encode(alloc, &all[before..])?,
+            hex: hex::encode(alloc, written.bytes)?,
             needs,
             shown: 0,
         })?;
@@ -117,10 +109,16 @@ impl OutputNotes {
         self.held.retain(|held| is_held(core, held));
     }
 
-    /// Notes what the last event of a core wrote, where it needs so many changes, and what is shown since.
-    pub fn note(&mut self, alloc: Global, core: &Core, needs: u64) -> Result<(), AllocError> {
-        for terminal in 0..TERMINALS as u32 {
-            self.note_written(alloc, core, terminal, needs)?;
+    /// Notes what the last event of a core wrote, if it wrote anything, which needs so many changes, and what is shown since.
+    pub fn note(
+        &mut self,
+        alloc: Global,
+        core: &Core,
+        written: Option<Output<'_>>,
+        needs: u64,
+    ) -> Result<(), AllocError> {
+        if let Some(written) = &written {
+            self.note_written(alloc, core, written, needs)?;
         }
         self.note_shown(core);
         Ok(())

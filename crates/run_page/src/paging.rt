@@ -6,18 +6,17 @@ ghost use Rattle.run_page.specs.Page.{page_of};
 use crate::boots::BootRecorder;
 use crate::crash::fill_texts;
 use crate::data::{BootData, RunData};
-use crate::deeds::Before;
 use crate::html::write_html;
-use crate::places::Seen;
+use crate::places::{Registers, Seen};
 use exec_reports::Family;
 use faults::Fault;
 use kernel::{Answer, Core, Event, Refused};
 use kernel_model::TERMINALS;
-use scripts::{EventText, LineAnswer, Script, Setup, Visitor, bytes_text, play_all};
+use run_events::{Before, EventRecord, Interest, Observer};
+use scripts::{EventText, Launch, LineAnswer, Step, Visitor, bytes_text, play_all, process_of};
 use std::alloc::{AllocError, Global};
 use std::io::Write;
 use std::mem;
-use std::rt::Files;
 
 /// The version of the form of a page's data.
 const VERSION: u32 = 1;
@@ -28,56 +27,71 @@ const MADE: &str = "bench page";
 /// The most events that a page has.
 const MOST_EVENTS: u64 = 4000;
 
+/// What is known before an event: what is noted of the core, and what the registers of the event's process hold.
+#[derive(Drop)]
+struct Pending {
+    event: Event,
+    before: Before,
+    registers: Registers,
+}
+
+fn registers_of(core: &Core, event: Event) -> Registers {
+    match process_of(event).map(|pid| core.machine(pid)) {
+        Some(Ok(machine)) => Registers::of(machine),
+        _ => Registers::zero(),
+    }
+}
+
 /// A script whose run is noted while it is played.
-struct Paged<'r, 's, R> {
-    rt: &'r R,
-    setup: &'s mut Setup,
+struct Paged<'l> {
+    alloc: Global,
+    launch: &'l Launch,
     family: Family,
     boots: Vec<BootData>,
     /// The boot that goes on.
     boot: BootRecorder,
     /// What is known before the event that is to be applied, or was refused.
-    before: Option<Before>,
+    pending: Option<Pending>,
     /// How many events and crashes there were so far, and how many events are left out.
     events: u64,
     left: u64,
 }
 
-impl<R> Drop for Paged<'_, '_, R> {
+impl Drop for Paged<'_> {
     fn drop(self) {
         let Paged {
-            rt: _,
-            setup: _,
+            alloc: _,
+            launch: _,
             family: _family,
             boots: _boots,
             boot: _boot,
-            before: _before,
+            pending: _pending,
             events: _,
             left: _,
         } = self;
     }
 }
 
-impl<'r, 's, R: Files + AllocGlobal> Paged<'r, 's, R> {
+impl<'l> Paged<'l> {
     /// Right after the first boot.
     fn new(
-        rt: &'r R,
-        setup: &'s mut Setup,
+        alloc: Global,
+        launch: &'l Launch,
         family: Family,
         core: &Core,
-    ) -> Result<Paged<'r, 's, R>, Fault> {
+    ) -> Result<Paged<'l>, Fault> {
         let seen = Seen {
             core,
             family: &family,
         };
-        let boot = BootRecorder::new(rt.alloc(), seen)?;
+        let boot = BootRecorder::new(alloc, seen)?;
         Ok(Paged {
-            rt,
-            setup,
+            alloc,
+            launch,
             family,
-            boots: Vec::new(rt.alloc()),
+            boots: Vec::new(alloc),
             boot,
-            before: None,
+            pending: None,
             events: 0,
             left: 0,
         })
@@ -85,7 +99,7 @@ impl<'r, 's, R: Files + AllocGlobal> Paged<'r, 's, R> {
 
     /// Right after another boot.
     fn next_recorder(&mut self, core: &Core) -> Result<BootRecorder, Fault> {
-        let alloc = self.rt.alloc();
+        let alloc = self.alloc;
         self.family.reboot(alloc)?;
         let seen = Seen {
             core,
@@ -101,7 +115,7 @@ impl<'r, 's, R: Files + AllocGlobal> Paged<'r, 's, R> {
 
     /// Notes a line that was refused.
     fn push_refusal(&mut self, line: String, why: Refused) -> Result<(), AllocError> {
-        let alloc = self.rt.alloc();
+        let alloc = self.alloc;
         let number = why.number();
         let answer = format!(in alloc; "refused {number} {why:?}")?;
         self.boot.push_refused(line, answer)
@@ -109,11 +123,11 @@ impl<'r, 's, R: Files + AllocGlobal> Paged<'r, 's, R> {
 
     /// Notes the event that was refused last.
     fn push_refused_event(&mut self, why: Refused) -> Result<(), AllocError> {
-        let alloc = self.rt.alloc();
-        let Some(before) = mem::replace(&mut self.before, None) else {
+        let alloc = self.alloc;
+        let Some(pending) = mem::replace(&mut self.pending, None) else {
             return Ok(());
         };
-        let event = EventText(before.event);
+        let event = EventText(pending.event);
         let line = format!(in alloc; "{event}")?;
         self.push_refusal(line, why)
     }
@@ -121,12 +135,12 @@ impl<'r, 's, R: Files + AllocGlobal> Paged<'r, 's, R> {
     /// The boots, of which the last one goes on, and how many events are left out.
     fn into_boots(self) -> Result<(Vec<BootData>, u64), AllocError> {
         let Paged {
-            rt: _,
-            setup: _,
+            alloc: _,
+            launch: _,
             family: _family,
             mut boots,
             boot,
-            before: _before,
+            pending: _pending,
             events: _,
             left,
         } = self;
@@ -135,20 +149,24 @@ impl<'r, 's, R: Files + AllocGlobal> Paged<'r, 's, R> {
     }
 }
 
-impl<R: Files + AllocGlobal> Visitor for Paged<'_, '_, R> {
+impl Visitor for Paged<'_> {
     type Fault = Fault;
 
     fn before(&mut self, core: &Core, event: Event) -> Result<(), Fault> {
-        self.family.before(core, event);
-        self.before = Some(Before::of(self.rt.alloc(), core, event)?);
+        self.pending = Some(Pending {
+            event,
+            before: Before::new(self.alloc, core, event, Interest::Record)?,
+            registers: registers_of(core, event),
+        });
         Ok(())
     }
 
-    fn after(&mut self, core: &Core, _event: Event, answer: Answer) -> Result<(), Fault> {
-        self.family.after(core, answer)?;
-        let Some(before) = mem::replace(&mut self.before, None) else {
+    fn after(&mut self, core: &Core, event: Event, answer: Answer) -> Result<(), Fault> {
+        let Some(pending) = mem::replace(&mut self.pending, None) else {
             return Ok(());
         };
+        let done = EventRecord::of(core, &pending.before, event, answer);
+        self.family.event(core, &done)?;
         if self.is_full() {
             self.left = self.left.saturating_add(1);
             return Ok(());
@@ -158,7 +176,7 @@ impl<R: Files + AllocGlobal> Visitor for Paged<'_, '_, R> {
             core,
             family: &self.family,
         };
-        self.boot.push_event(seen, answer, before)
+        self.boot.push_event(seen, &done, &pending.registers)
     }
 
     fn answered(&mut self, _core: &Core, answer: LineAnswer) -> Result<(), Fault> {
@@ -168,7 +186,7 @@ impl<R: Files + AllocGlobal> Visitor for Paged<'_, '_, R> {
         match answer {
             LineAnswer::Applied(Err(why)) => Ok(self.push_refused_event(why)?),
             LineAnswer::Drained(Err(why)) => {
-                let line = String::from_str(self.rt.alloc(), "drain")?;
+                let line = String::from_str(self.alloc, "drain")?;
                 Ok(self.push_refusal(line, why)?)
             }
             _ => Ok(()),
@@ -176,9 +194,9 @@ impl<R: Files + AllocGlobal> Visitor for Paged<'_, '_, R> {
     }
 
     fn crash(&mut self, core: Core, fill: &[u8]) -> Result<Core, Fault> {
-        let alloc = self.rt.alloc();
+        let alloc = self.alloc;
         if self.is_full() {
-            return self.setup.boot(self.rt, Some(core.halt(fill)));
+            return self.launch.boot(self.alloc, Some(core.halt(fill)));
         }
         self.events = self.events.saturating_add(1);
         let fill_text = bytes_text(alloc, fill)?;
@@ -186,7 +204,7 @@ impl<R: Files + AllocGlobal> Visitor for Paged<'_, '_, R> {
             .boot
             .end_of(&core, format!(in alloc; "crash {fill_text}")?);
         let committed = core.committed();
-        let next = self.setup.boot(self.rt, Some(core.halt(fill)))?;
+        let next = self.launch.boot(self.alloc, Some(core.halt(fill)))?;
         end.found = self.boot.found(next.boot_files(), committed)?;
         let recorder = self.next_recorder(&next)?;
         let ended = mem::replace(&mut self.boot, recorder);
@@ -195,55 +213,57 @@ impl<R: Files + AllocGlobal> Visitor for Paged<'_, '_, R> {
     }
 }
 
-/// Whether a program of a script has this terminal.
-fn has_terminal(setup: &Setup, terminal: u32) -> bool {
-    setup
-        .programs
+/// Whether a program has this terminal.
+fn has_terminal(launch: &Launch, terminal: u32) -> bool {
+    launch
+        .programs()
         .iter()
         .any(|program| program.terminal.number == terminal)
 }
 
-/// The terminals of a script's programs, by rising number.
-fn terminals_of(alloc: Global, setup: &Setup) -> Result<Vec<u32>, AllocError> {
+/// The terminals of programs, by rising number.
+fn terminals_of(alloc: Global, launch: &Launch) -> Result<Vec<u32>, AllocError> {
     let mut terminals = Vec::new(alloc);
     for terminal in 0..TERMINALS as u32 {
-        if has_terminal(setup, terminal) {
+        if has_terminal(launch, terminal) {
             terminals.push(terminal)?;
         }
     }
     Ok(terminals)
 }
 
-/// A script whose run is to be noted: the name of its file, and what is known of its programs.
-pub struct PagedScript<'n> {
+/// A run that is to be noted: what it begins with, its steps, the name of its file, and what is known of its programs.
+pub struct PagedRun<'n> {
     pub name: &'n str,
-    pub script: Script,
+    pub launch: Launch,
+    pub steps: Vec<Step>,
     pub family: Family,
 }
 
-impl Drop for PagedScript<'_> {
+impl Drop for PagedRun<'_> {
     fn drop(self) {
-        let PagedScript {
+        let PagedRun {
             name: _,
-            script: _script,
+            launch: _launch,
+            steps: _steps,
             family: _family,
         } = self;
     }
 }
 
-impl PagedScript<'_> {
-    /// Plays the script, and notes its run.
-    fn play<R: Files + AllocGlobal>(self, rt: &R) -> Result<RunData, Fault> {
-        let PagedScript {
+impl PagedRun<'_> {
+    /// Plays the run, and notes it.
+    fn play(self, alloc: Global) -> Result<RunData, Fault> {
+        let PagedRun {
             name,
-            mut script,
+            launch,
+            steps,
             family,
         } = self;
-        let alloc = rt.alloc();
-        let terminals = terminals_of(alloc, &script.setup)?;
-        let core = script.setup.boot(rt, None)?;
-        let mut paged = Paged::new(rt, &mut script.setup, family, &core)?;
-        play_all(&mut paged, core, script.steps.as_slice())?;
+        let terminals = terminals_of(alloc, &launch)?;
+        let core = launch.boot(alloc, None)?;
+        let mut paged = Paged::new(alloc, &launch, family, &core)?;
+        play_all(&mut paged, core, steps.as_slice())?;
         let (boots, left) = paged.into_boots()?;
         Ok(RunData {
             page: VERSION,
@@ -257,38 +277,30 @@ impl PagedScript<'_> {
     }
 }
 
-/// The JSON of a script's run.
-fn json_of<R: Files + AllocGlobal>(rt: &R, paged: PagedScript<'_>) -> Result<String, Fault> {
-    let run = paged.play(rt)?;
-    match serde_json::to_string(rt.alloc(), &run) {
+/// The JSON of a run.
+fn json_of(alloc: Global, paged: PagedRun<'_>) -> Result<String, Fault> {
+    let run = paged.play(alloc)?;
+    match serde_json::to_string(alloc, &run) {
         Ok(json) => Ok(json),
         // Nothing else ends the writing of these types.
         Err(_) => Err(Fault::OutOfMemory),
     }
 }
 
-/// Runs a script, and writes what happened as one line of JSON, as it stands in the page.
-pub fn write_json<R: Files + AllocGlobal, O: Write>(
-    rt: &R,
-    paged: PagedScript<'_>,
-    out: &mut O,
-) -> Result<(), Fault> {
-    let json = json_of(rt, paged)?;
+/// Plays a run, and writes what happened as one line of JSON, as it stands in the page.
+pub fn write_json<O: Write>(alloc: Global, paged: PagedRun<'_>, out: &mut O) -> Result<(), Fault> {
+    let json = json_of(alloc, paged)?;
     Ok(writeln!(out, "{json}")?)
 }
 
-/// Runs a script, and writes a page of HTML in which a browser walks the run event by event. It stands alone: it asks the network for
+/// Plays a run, and writes a page of HTML in which a browser walks the run event by event. It stands alone: it asks the network for
 /// nothing. The page has the first 4,000 events, and says how many come after them. A refused line stands in it too, but no line that
-/// only asks. The name of the script heads the page. The script is run before anything is written.
-pub fn write_page<R: Files + AllocGlobal, O: Write>(
-    rt: &R,
-    paged: PagedScript<'_>,
-    out: &mut O,
-) -> Result<(), Fault>
+/// only asks. The run's name heads the page. The run is played before anything is written.
+pub fn write_page<O: Write>(alloc: Global, paged: PagedRun<'_>, out: &mut O) -> Result<(), Fault>
     // Whatever the run was, what is written is the page of its name and of some JSON.
     ensures { OnOk result ((json : List ℕ) × Appends (O.contents out.old) (O.contents out.new) (page_of paged.entry.name.now json)) }
 {
     let name = paged.name;
-    let json = json_of(rt, paged)?;
-    write_html(rt.alloc(), name, json.as_str(), out)
+    let json = json_of(alloc, paged)?;
+    write_html(alloc, name, json.as_str(), out)
 }

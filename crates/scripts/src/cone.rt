@@ -1,8 +1,8 @@
 //! `replay --cone N`: runs the cone of event N alone, and prints the events on which event N rests, and what it tells.
+use crate::last_boot::LastBoot;
 use crate::playing::play_all;
 use crate::printing::{bytes_text, print_answer, print_reply};
 use crate::script::Script;
-use crate::start::Start;
 use crate::steps::{Step, process_of};
 use crate::texts::EventText;
 use faults::{Fault, Refusal};
@@ -43,12 +43,8 @@ pub fn cone_events(alloc: Global, core: &Core, event: u64) -> Result<Vec<Event>,
 }
 
 /// A core after events, each of which is printed as a line of a script, with its answer.
-fn print_run<R: Files + AllocGlobal, O: Write>(
-    start: &mut Start<'_, R>,
-    events: &[Event],
-    out: &mut O,
-) -> Result<Core, Fault> {
-    let mut core = start.boot()?;
+fn print_run<O: Write>(boot: &LastBoot<'_>, events: &[Event], out: &mut O) -> Result<Core, Fault> {
+    let mut core = boot.boot()?;
     for event in events {
         let text = EventText(*event);
         writeln!(out, "{text}")?;
@@ -111,13 +107,13 @@ fn drain(core: &mut Core) -> Result<(), Fault> {
 }
 
 /// Runs a cone alone, and prints how many events and changes it has, and each event with its answer. Gives the core after it.
-fn print_events<R: Files + AllocGlobal, O: Write>(
-    start: &mut Start<'_, R>,
+fn print_events<O: Write>(
+    boot: &LastBoot<'_>,
     events: &[Event],
     out: &mut O,
 ) -> Result<Core, Fault> {
-    let mut lines = Vec::new(start.alloc());
-    let core = print_run(start, events, &mut lines)?;
+    let mut lines = Vec::new(boot.alloc);
+    let core = print_run(boot, events, &mut lines)?;
     let (count, changes) = (events.len(), core.changes());
     writeln!(out, "cone {count} events {changes} changes")?;
     out.write_all(lines.as_slice())?;
@@ -132,30 +128,22 @@ fn last_of(events: &[Event]) -> Option<(u32, &[Event])> {
 }
 
 /// Prints a cone that is run alone: how many events and changes it has, each event with its answer, and what the last one tells.
-fn print_cone<R: Files + AllocGlobal, O: Write>(
-    start: &mut Start<'_, R>,
-    events: &[Event],
-    out: &mut O,
-) -> Result<(), Fault> {
-    let mut with = print_events(start, events, out)?;
+fn print_cone<O: Write>(boot: &LastBoot<'_>, events: &[Event], out: &mut O) -> Result<(), Fault> {
+    let mut with = print_events(boot, events, out)?;
     let Some((pid, before)) = last_of(events) else {
         return Ok(());
     };
-    let mut without = print_run(start, before, &mut io::sink())?;
+    let mut without = print_run(boot, before, &mut io::sink())?;
     drain(&mut with)?;
     drain(&mut without)?;
-    Ok(print_told(start.alloc(), &with, &without, pid, out)?)
+    Ok(print_told(boot.alloc, &with, &without, pid, out)?)
 }
 
 /// Runs a script without printing, and gives the events in the cone of an event of its last boot.
-fn cone_of<R: Files + AllocGlobal>(
-    start: &mut Start<'_, R>,
-    steps: &[Step],
-    event: u64,
-) -> Result<Vec<Event>, Fault> {
-    let core = start.boot()?;
-    let core = play_all(start, core, steps)?;
-    cone_events(start.alloc(), &core, event)
+fn cone_of(boot: &mut LastBoot<'_>, steps: &[Step], event: u64) -> Result<Vec<Event>, Fault> {
+    let core = boot.boot()?;
+    let core = play_all(boot, core, steps)?;
+    cone_events(boot.alloc, &core, event)
 }
 
 /// Runs a script without printing, and takes the events since its last boot. Of these it prints the cone of event number `event`,
@@ -170,11 +158,13 @@ fn cone_of<R: Files + AllocGlobal>(
 /// `Refusal::Event`: there is no such event, or it is a Cut, a Complete or a Fail.
 pub fn replay_cone<R: Files + AllocGlobal, O: Write>(
     rt: &R,
-    mut script: Script,
+    script: Script,
     event: u64,
     out: &mut O,
 ) -> Result<(), Fault> {
-    let mut start = Start::new(rt, &mut script.setup);
-    let events = cone_of(&mut start, script.steps.as_slice(), event)?;
-    print_cone(&mut start, events.as_slice(), out)
+    let (setup, steps) = script.into_parts();
+    let launch = setup.read(rt)?;
+    let mut boot = LastBoot::new(rt.alloc(), &launch);
+    let events = cone_of(&mut boot, steps.as_slice(), event)?;
+    print_cone(&boot, events.as_slice(), out)
 }

@@ -1,9 +1,9 @@
 //! `replay`: runs a script, and prints what each of its lines gives, as `shown 0 41`.
 use crate::file_lines::write_files;
+use crate::launch::Launch;
 use crate::playing::{LineAnswer, Visitor, play_all};
 use crate::printing::{bytes_text, print_answer, print_refusal, print_reply};
 use crate::script::Script;
-use crate::setup::Setup;
 use crate::steps::Question;
 use faults::Fault;
 use files::FileList;
@@ -74,13 +74,13 @@ fn print_drained<O: Write>(
 
 /// The visitor of `replay`, which prints what each line gives.
 #[derive(Drop)]
-struct Printer<'a, R, O> {
-    rt: &'a R,
-    setup: &'a mut Setup,
+struct Printer<'a, O> {
+    alloc: Global,
+    launch: &'a Launch,
     out: &'a mut O,
 }
 
-impl<R: Files + AllocGlobal, O: Write> Visitor for Printer<'_, R, O> {
+impl<O: Write> Visitor for Printer<'_, O> {
     type Fault = Fault;
 
     fn answered(&mut self, core: &Core, answer: LineAnswer) -> Result<(), Fault> {
@@ -88,14 +88,14 @@ impl<R: Files + AllocGlobal, O: Write> Visitor for Printer<'_, R, O> {
             LineAnswer::Applied(answer) => print_answer(answer, self.out)?,
             LineAnswer::Drained(drained) => print_drained(core, drained, self.out)?,
             LineAnswer::Asked(question) => {
-                print_asked(self.rt.alloc(), core, question, self.out)?;
+                print_asked(self.alloc, core, question, self.out)?;
             }
         }
         Ok(())
     }
 
     fn crash(&mut self, core: Core, fill: &[u8]) -> Result<Core, Fault> {
-        let next = self.setup.boot(self.rt, Some(core.halt(fill)))?;
+        let next = self.launch.boot(self.alloc, Some(core.halt(fill)))?;
         writeln!(self.out, "crashed")?;
         Ok(next)
     }
@@ -104,15 +104,17 @@ impl<R: Files + AllocGlobal, O: Write> Visitor for Printer<'_, R, O> {
 /// Runs a script, and prints what each of its lines gives.
 pub fn replay<R: Files + AllocGlobal, O: Write>(
     rt: &R,
-    mut script: Script,
+    script: Script,
     out: &mut O,
 ) -> Result<(), Fault> {
-    let core = script.setup.boot(rt, None)?;
+    let (setup, steps) = script.into_parts();
+    let launch = setup.read(rt)?;
+    let core = launch.boot(rt.alloc(), None)?;
     let mut printer = Printer {
-        rt,
-        setup: &mut script.setup,
+        alloc: rt.alloc(),
+        launch: &launch,
         out,
     };
-    play_all(&mut printer, core, script.steps.as_slice())?;
+    play_all(&mut printer, core, steps.as_slice())?;
     Ok(())
 }

@@ -55,7 +55,7 @@ impl Script {
         };
         match SetupLine::named(name) {
             None => self.read_step(alloc, name, rest),
-            Some(line) if self.steps.is_empty() => self.setup.read(alloc, line, rest),
+            Some(line) if self.steps.is_empty() => self.setup.add(alloc, line, rest),
             Some(_) => Ok(false),
         }
     }

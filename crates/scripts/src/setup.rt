@@ -1,14 +1,19 @@
 //! The set-up lines of a script, `program`, `image`, `binary`, `tape` and `file`, and what they set up.
-ghost use Rattle.std.specs.Prelude.{◌≡◌, ◌<◌, ◌≤◌, true, length, vec_len};
-ghost use Rattle.kernel_model.specs.World.{tape_count};
+ghost use Rattle.std.specs.Prelude.{◌<◌, ◌≤◌, length, vec_len};
 
+use crate::launch::{Launch, LaunchProgram};
+use crate::tapes::TapeList;
 use crate::words::{Terminal, is_file_name, numbers_of, only_bytes_of, terminal_of};
 use byte_list::Bytes;
 use disk_model::{Change, LONGEST_FILE, MOST_FILES};
+use faults::{Fault, Refusal};
 use files::FileList;
-use input_reading::{MOST_TAPE_BYTES, decimal_word};
-use kernel_model::{MOST_PROGRAMS, TAPES};
+use host_files::{image_in, image_of_bytes};
+use input_reading::decimal_word;
+use kernel_model::MOST_PROGRAMS;
+use machine_model::Image;
 use std::alloc::{AllocError, Global};
+use std::rt::Files;
 
 /// The most words of a program: 60 pages.
 const MOST_WORDS: usize = 61440;
@@ -38,7 +43,7 @@ impl Words {
 
 /// Where a program comes from.
 #[derive(Drop)]
-pub enum Source {
+enum Source {
     /// The script itself.
     Words(Words),
     /// The image in a file of the host, at this path, which is not read yet.
@@ -48,9 +53,9 @@ pub enum Source {
 }
 
 /// A program that a script sets up.
-pub struct ScriptProgram {
-    pub terminal: Terminal,
-    pub source: Source,
+struct ScriptProgram {
+    terminal: Terminal,
+    source: Source,
 }
 
 impl Drop for ScriptProgram {
@@ -62,31 +67,11 @@ impl Drop for ScriptProgram {
     }
 }
 
-/// A tape that a script sets up.
-pub struct ScriptTape {
-    /// 0 to 7.
-    pub number: u32,
-    /// At most 65,536.
-    pub bytes: Bytes,
-    ghost there: { number < tape_count },
-    ghost short: { length bytes ≤ 65536 },
-}
-
-impl Drop for ScriptTape {
-    fn drop(self) {
-        let ScriptTape {
-            number: _,
-            bytes: _bytes,
-        } = self;
-    }
-}
-
-/// What a script sets up: its programs in order, the tapes that it gives, at most one of each number, and the files that the disk holds
-/// at the first boot.
+/// What a script sets up: its programs in order, the tapes that it gives, and the files that the disk holds at the first boot.
 pub struct Setup {
-    pub programs: Vec<ScriptProgram>,
-    pub tapes: Vec<ScriptTape>,
-    pub files: FileList,
+    programs: Vec<ScriptProgram>,
+    tapes: TapeList,
+    files: FileList,
 }
 
 impl Drop for Setup {
@@ -155,9 +140,29 @@ fn file_of(alloc: Global, texts: &[&str]) -> Result<Option<Source>, AllocError> 
     }
 }
 
-/// The tape of this number, if there is one.
-pub fn tape_numbered(tapes: &[ScriptTape], number: u32) -> Option<&ScriptTape> {
-    tapes.iter().find(|tape| tape.number == number)
+impl Source {
+    /// The image, and the words of which the script made it.
+    fn read<R: Files + AllocGlobal>(self, rt: &R) -> Result<(Image, Option<Words>), Fault> {
+        match self {
+            Source::Words(words) => {
+                Ok((Image::from_text(rt.alloc(), words.as_slice())?, Some(words)))
+            }
+            Source::Path(path) => Ok((image_in(rt, path.as_str())?, None)),
+            Source::File(file) => Ok((image_of_bytes(rt.alloc(), file.as_slice())?, None)),
+        }
+    }
+}
+
+impl ScriptProgram {
+    fn read<R: Files + AllocGlobal>(self, rt: &R) -> Result<LaunchProgram, Fault> {
+        let ScriptProgram { terminal, source } = self;
+        let (image, words) = source.read(rt)?;
+        Ok(LaunchProgram {
+            image,
+            terminal,
+            words,
+        })
+    }
 }
 
 impl Setup {
@@ -174,43 +179,6 @@ impl Setup {
             }
             _ => Ok(false),
         }
-    }
-
-    /// Whether a script may still set up this tape: it has a number from 0 to 7, which no other tape has, and not too many bytes.
-    fn takes_tape(&self, number: u32, bytes: &[u8]) -> bool
-        ensures { result ≡ true → (number < tape_count) × (length bytes.now ≤ 65536) }
-    {
-        number < TAPES as u32
-            && bytes.len() <= MOST_TAPE_BYTES
-            && tape_numbered(self.tapes.as_slice(), number).is_none()
-    }
-
-    /// Adds a tape. False where its number or its bytes are missing, or where `takes_tape` says no.
-    pub fn push_tape(
-        &mut self,
-        number: Option<u32>,
-        bytes: Option<Bytes>,
-    ) -> Result<bool, AllocError> {
-        match (number, bytes) {
-            (Some(number), Some(bytes)) if self.takes_tape(number, bytes.as_slice()) => {
-                self.tapes.push(ScriptTape { number, bytes })?;
-                Ok(true)
-            }
-            _ => Ok(false),
-        }
-    }
-
-    /// The terminal of the next program's place, if there is one.
-    fn next_terminal(&self) -> Option<Terminal> {
-        u32::try_from(self.programs.len())
-            .ok()
-            .and_then(terminal_of)
-    }
-
-    /// Adds the image whose file has these bytes, for the terminal of its place. Whether there is room for it: it is not a ninth one.
-    pub fn push_binary(&mut self, file: Vec<u8>) -> Result<bool, AllocError> {
-        let terminal = self.next_terminal();
-        self.push_program(terminal, Some(Source::File(file)))
     }
 
     /// Whether one more file of this name and these bytes may be there: they are within their limits, and no other has the name.
@@ -249,13 +217,13 @@ impl Setup {
     pub fn new(alloc: Global) -> Setup {
         Setup {
             programs: Vec::new(alloc),
-            tapes: Vec::new(alloc),
+            tapes: TapeList::new(alloc),
             files: FileList::new(alloc),
         }
     }
 
     /// Adds what a set-up line sets up, if the words after its first have a form.
-    pub fn read(
+    pub fn add(
         &mut self,
         alloc: Global,
         line: SetupLine,
@@ -275,8 +243,26 @@ impl Setup {
             SetupLine::Binary => {
                 self.push_program(number.and_then(terminal_of), file_of(alloc, rest)?)
             }
-            SetupLine::Tape => self.push_tape(number, only_bytes_of(alloc, rest)?),
+            SetupLine::Tape => self.tapes.push(number, only_bytes_of(alloc, rest)?),
             SetupLine::File => self.push_file(alloc, first, only_bytes_of(alloc, rest)?),
+        }
+    }
+
+    /// Reads the images in the files of the host that it names, one after the other; each is checked before the next is read. A script
+    /// that sets up no program is refused at line 1; one that was read sets up no more than eight.
+    pub fn read<R: Files + AllocGlobal>(self, rt: &R) -> Result<Launch, Fault> {
+        let Setup {
+            programs,
+            tapes,
+            files,
+        } = self;
+        let mut read = Vec::new(rt.alloc());
+        for program in programs {
+            read.push(program.read(rt)?)?;
+        }
+        match Launch::new(read, tapes, files) {
+            Some(launch) => Ok(launch),
+            None => Err(Fault::from(Refusal::NoProgram)),
         }
     }
 }

@@ -1,6 +1,6 @@
 //! What is set up, as the lines of a script.
+use crate::launch::{Launch, LaunchProgram};
 use crate::printing::bytes_text;
-use crate::setup::{ScriptProgram, Setup, Source};
 use files::FileList;
 use std::alloc::Global;
 use std::io;
@@ -21,31 +21,26 @@ fn write_files<W: Write>(alloc: Global, files: &FileList, out: &mut W) -> io::Re
     Ok(())
 }
 
-fn write_program<W: Write>(alloc: Global, program: &ScriptProgram, out: &mut W) -> io::Result<()> {
+fn write_program<W: Write>(alloc: Global, program: &LaunchProgram, out: &mut W) -> io::Result<()> {
     let terminal = program.terminal.number;
-    match &program.source {
-        Source::Words(words) => {
-            write!(out, "program {terminal}")?;
-            for word in words.as_slice() {
-                write!(out, " {word:08x}")?;
-            }
-            writeln!(out)
+    if let Some(words) = &program.words {
+        write!(out, "program {terminal}")?;
+        for word in words.as_slice() {
+            write!(out, " {word:08x}")?;
         }
-        Source::Path(path) => writeln!(out, "image {terminal} {path}"),
-        Source::File(file) => {
-            let digits = bytes_text(alloc, file.as_slice())?;
-            writeln!(out, "binary {terminal} {digits}")
-        }
+        return writeln!(out);
     }
+    let digits = bytes_text(alloc, &elf32::write(alloc, &program.image)?)?;
+    writeln!(out, "binary {terminal} {digits}")
 }
 
-/// Writes the set-up lines of a script that sets up the same. The image of a file that was read already stands in its line.
-pub fn write_setup<W: Write>(alloc: Global, setup: &Setup, out: &mut W) -> io::Result<()> {
-    write_files(alloc, &setup.files, out)?;
-    for program in &setup.programs {
+/// Writes the set-up lines of a script that sets up the same. An image stands in its line.
+pub fn write_launch<W: Write>(alloc: Global, launch: &Launch, out: &mut W) -> io::Result<()> {
+    write_files(alloc, &launch.files, out)?;
+    for program in launch.programs() {
         write_program(alloc, program, out)?;
     }
-    for tape in &setup.tapes {
+    for tape in launch.tapes.as_slice() {
         let number = tape.number;
         let digits = bytes_text(alloc, tape.bytes.as_slice())?;
         writeln!(out, "tape {number} {digits}")?;

@@ -15,7 +15,7 @@ use host_files::text_in;
 use kernel::Core;
 use recovery_runs::{Effort, Failure, Part, Recovery};
 use run_files::{Input, of_subject, program_in, subject_in};
-use scripts::Setup;
+use scripts::Launch;
 use std::fmt;
 use std::io::{Read, Write};
 use std::rt::Files;
@@ -150,15 +150,15 @@ fn explore_to_end<R: Files + AllocGlobal + Threads + Sync, O: Write>(
     subject: &mut CrashSubject,
     out: &mut O,
 ) -> Result<RunEnd, Fault> {
-    let (setup, course) = (&mut subject.setup, &subject.course);
+    let (launch, course) = (&subject.launch, &subject.course);
     if let Some(rule) = rule_of(options) {
-        return explore_by(rt, setup, course, rule, out);
+        return explore_by(rt, launch, course, rule, out);
     }
     let Some(path) = options.expect else {
-        return explore(rt, setup, course, None, out);
+        return explore(rt.alloc(), launch, course, None, out);
     };
     let expected = text_in(rt, path)?;
-    explore(rt, setup, course, Some(expected.as_str()), out)
+    explore(rt.alloc(), launch, course, Some(expected.as_str()), out)
 }
 
 /// Explores, and says how the run ended.
@@ -183,16 +183,16 @@ fn explore_in<R: Files + AllocGlobal + Threads + Sync, O: Write, E: Write>(
 fn end_failed<R: Files + AllocGlobal, E: Write>(
     rt: &R,
     options: &CrashOptions<'_>,
-    setup: &Setup,
+    launch: &Launch,
     recovery: &mut Recovery,
     failed: (Failure, String),
     err: &mut E,
 ) -> Result<u8, Fault> {
-    let (mut failure, played) = failed;
+    let (failure, played) = failed;
     failure.tell(&mut recovery.family, err)?;
     if let Some(folder) = options.save {
         let program = &recovery.program;
-        save(rt, folder, setup, program, &mut failure, played.as_str())?;
+        save(rt, folder, launch, program, &failure, played.as_str())?;
     }
     Ok(FAILED)
 }
@@ -214,9 +214,9 @@ fn judge_orders<R: Files + AllocGlobal + Threads + Sync, O: Write, E: Write>(
     out: &mut O,
     err: &mut E,
 ) -> Result<Judged, Fault> {
-    let setup = &mut subject.setup;
+    let launch = &subject.launch;
     let OrdersTested { tested, calls } = recover_orders(
-        rt, setup, recovery, bounds, trial, out, err,
+        rt, launch, recovery, bounds, trial, out, err,
     )?;
     out.flush()?;
     let status = match (&tested.verdict, &tested.core) {
@@ -238,7 +238,7 @@ fn judge_run<R: Files + AllocGlobal + Threads + Sync, O: Write, E: Write>(
     err: &mut E,
 ) -> Result<Judged, Fault> {
     let run = Subject {
-        setup: &mut subject.setup,
+        launch: &subject.launch,
         course: &subject.course,
     };
     let tested = try_recoveries(rt, run, recovery, trial, out, err)?;
@@ -281,8 +281,8 @@ fn recover_in<R: Files + AllocGlobal + Threads + Sync, O: Write, E: Write>(
     match verdict {
         Verdict::Kept => Ok(status),
         Verdict::Failed(failure, played) => {
-            let (setup, failed) = (&subject.setup, (failure, played));
-            end_failed(rt, options, setup, &mut recovery, failed, err)
+            let (launch, failed) = (&subject.launch, (failure, played));
+            end_failed(rt, options, launch, &mut recovery, failed, err)
         }
         Verdict::Cut => tell_cut(options, &mut subject.family, core.as_ref(), err),
         Verdict::TooLong => {

@@ -13,7 +13,7 @@ use explored_runs::{
 use faults::{ExplorationFault, Fault};
 use progress::{Progress, ProgressCount};
 use recovery_runs::{Effort, Recovery};
-use scripts::Setup;
+use scripts::Launch;
 use std::alloc::Global;
 use std::io::{self, Sink, Write};
 use std::rt::Files;
@@ -117,16 +117,16 @@ fn verdict_of(explored: &ExploredStates) -> Result<Verdict, ExplorationFault>
 }
 
 /// The verdict, with the lines of the run that led to a recovery that failed.
-fn with_lines<R: Files + AllocGlobal>(
-    rt: &R,
-    setup: &mut Setup,
+fn with_lines(
+    alloc: Global,
+    launch: &Launch,
     instructions: u32,
     tried: OrdersTried,
 ) -> Result<Verdict, Fault> {
     let OrdersTried { verdict, calls } = tried;
     match verdict {
         Verdict::Failed(failure, _) => {
-            let lines = lines_of_calls(rt, setup, instructions, calls.as_slice())?;
+            let lines = lines_of_calls(alloc, launch, instructions, calls.as_slice())?;
             Ok(Verdict::Failed(failure, lines))
         }
         verdict => Ok(verdict),
@@ -134,18 +134,18 @@ fn with_lines<R: Files + AllocGlobal>(
 }
 
 /// What came of recoveries none of which failed, by how far the search came.
-fn tested_of<R: Files + AllocGlobal>(
-    rt: &R,
-    setup: &mut Setup,
+fn tested_of(
+    alloc: Global,
+    launch: &Launch,
     instructions: u32,
     explored: ExploredStates,
 ) -> Result<OrdersTested, Fault> {
     let verdict = verdict_of(&explored)?;
     let ExploredStates { ends_badly, .. } = explored;
     let Some(calls) = ends_badly else {
-        return Ok(all_well(rt.alloc(), verdict));
+        return Ok(all_well(alloc, verdict));
     };
-    let core = end_of_calls(rt, setup, instructions, calls.as_slice())?;
+    let core = end_of_calls(alloc, launch, instructions, calls.as_slice())?;
     Ok(OrdersTested {
         tested: Tested {
             verdict,
@@ -171,7 +171,7 @@ fn all_well(alloc: Global, verdict: Verdict) -> OrdersTested {
 /// then, that is the fault. Where all were run and none failed, it has the end of the first order that `exec` does not end with status 0.
 pub fn recover_orders<R: Files + AllocGlobal + Threads + Sync, O: Write, E: Write>(
     rt: &R,
-    setup: &mut Setup,
+    launch: &Launch,
     recovery: &Recovery,
     bounds: OrderBounds,
     trial: Trial,
@@ -200,12 +200,13 @@ pub fn recover_orders<R: Files + AllocGlobal + Threads + Sync, O: Write, E: Writ
         progress,
         done: 0,
     };
-    let (explored, searched) = parted(explore_states(rt, setup, limits, visits, &mut handing));
+    let (explored, searched) = parted(explore_states(rt, launch, limits, visits, &mut handing));
     let Handing { orders, .. } = handing;
     let tried = orders.finish(rt, searched, out)?;
     let instructions = bounds.instructions;
-    match (with_lines(rt, setup, instructions, tried)?, explored) {
-        (Verdict::Kept, Some(explored)) => tested_of(rt, setup, instructions, explored),
-        (verdict, _) => Ok(all_well(rt.alloc(), verdict)),
+    let alloc = rt.alloc();
+    match (with_lines(alloc, launch, instructions, tried)?, explored) {
+        (Verdict::Kept, Some(explored)) => tested_of(alloc, launch, instructions, explored),
+        (verdict, _) => Ok(all_well(alloc, verdict)),
     }
 }

@@ -54,20 +54,20 @@ pub fn make_saved<R: Files + AllocGlobal>(rt: &R, folder: Option<&str>) -> Resul
 }
 
 /// Says where each process stands at the end to which these calls lead.
-fn tell_processes<R: Files + AllocGlobal, E: Write>(
-    rt: &R,
+fn tell_processes<E: Write>(
+    alloc: Global,
     subject: Subject,
     instructions: u32,
     calls: &[u32],
     err: &mut E,
 ) -> Result<(), Fault> {
     let Subject {
-        mut setup,
+        launch,
         steps: _steps,
         programs,
     } = subject;
-    let core = end_of_calls(rt, &mut setup, instructions, calls)?;
-    let mut family = Family::new(rt.alloc(), programs, setup.programs.len())?;
+    let core = end_of_calls(alloc, &launch, instructions, calls)?;
+    let mut family = Family::new(alloc, programs, launch.programs().len())?;
     family.forget_executed(&core);
     print_processes(&core, &family, err)
 }
@@ -93,7 +93,7 @@ fn explore_in<R: Files + AllocGlobal + Threads + Sync, I: Read, O: Write, E: Wri
     out: &mut O,
     err: &mut E,
 ) -> Result<u8, Fault> {
-    let mut subject = subject_in(rt, programs, &mut Input::new(input))?;
+    let subject = subject_in(rt, programs, &mut Input::new(input))?;
     let expected = expected_in(rt, options)?;
     make_saved(rt, options.save)?;
     let wanted = Wanted {
@@ -103,12 +103,18 @@ fn explore_in<R: Files + AllocGlobal + Threads + Sync, I: Read, O: Write, E: Wri
     };
     let limits = limits_in(options);
     let mut calls = None;
-    let done = explore_orders(rt, &mut subject.setup, limits, wanted, &mut calls, out, err);
+    let done = explore_orders(rt, &subject.launch, limits, wanted, &mut calls, out, err);
     if let (Err(fault), Some(calls)) = (&done, &calls)
         && runs_on(fault)
     {
         out.flush()?;
-        tell_processes(rt, subject, limits.instructions, calls.as_slice(), err)?;
+        tell_processes(
+            rt.alloc(),
+            subject,
+            limits.instructions,
+            calls.as_slice(),
+            err,
+        )?;
     }
     done?;
     Ok(0)

@@ -73,11 +73,11 @@ pub static FOREIGN: [(&str, Cure); 49] = [
     (".ktext", Alone(".text")),
     (
         ".equ .set .eqv .equiv",
-        Said("write the number itself wherever the name is used"),
+        Said("write the number itself wherever the name is used, and leave this line out"),
     ),
     (
         ".macro .endm .end_macro .rept .irp .endr",
-        Said("write out the lines themselves"),
+        Said("write out the lines themselves, and leave this one out"),
     ),
     (
         ".include .incbin",

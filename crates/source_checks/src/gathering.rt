@@ -6,7 +6,6 @@ ghost use Rattle.source_checks.specs.Checks.{place_among};
 
 use crate::line_faults::line_faults;
 use crate::place::without_indent;
-use crate::saying::is_c;
 use assembler::{AsmFault, Cause};
 use std::alloc::{AllocError, Global};
 
@@ -25,9 +24,9 @@ fn begins_start(line: &str) -> bool {
     without_indent(line).starts_with("_start")
 }
 
-/// The faults of a source, in no order. Of a source that is too large, or of C, nothing is said beside its first one.
+/// The faults of a source, in no order. Of a source that is too large nothing is said beside its first one.
 fn others(alloc: Global, source: &str, first: AsmFault) -> Result<Vec<AsmFault>, AllocError> {
-    if first.why == Cause::TooLarge || is_c(source) {
+    if first.why == Cause::TooLarge {
         return Ok(Vec::new(alloc));
     }
     let mut found = line_faults(alloc, source)?;
@@ -52,8 +51,7 @@ fn with_others(alloc: Global, source: &str, first: AsmFault) -> Result<Vec<AsmFa
     Ok(all)
 }
 
-/// All faults of a source in the order of lines, of which the assembler tells this one. Of a source that is too large, or of C, it is
-/// the only one.
+/// All faults of a source in the order of lines, of which the assembler tells this one. Of a source that is too large it is the only one.
 pub fn faults(alloc: Global, source: &str, first: AsmFault) -> Result<Vec<AsmFault>, AllocError>
     ensures in_order { IfOk result (λ all. IsNonDecreasingBy place_among all.items) }
     ensures first { IfOk result (λ all. Contains all.items first) }

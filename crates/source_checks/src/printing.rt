@@ -58,16 +58,6 @@ fn fault_line(
     format!(in alloc; "{path}:{line}:{column}: error: {said}")
 }
 
-/// The line of a fault, as [`print_checked`] begins what it prints of it.
-pub fn located_advice(
-    alloc: Global,
-    path: &str,
-    source: &str,
-    fault: AsmFault,
-) -> Result<String, AllocError> {
-    fault_line(alloc, path, &Source::of(alloc, source)?, fault)
-}
-
 /// Adds what is said of a fault: one line, and if it has a place of its own its line with a caret.
 fn push_fault(
     alloc: Global,

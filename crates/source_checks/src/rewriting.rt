@@ -28,6 +28,10 @@ fn push_halves(
     };
     for token in line.tokens.as_slice() {
         match &token.kind {
+            // (no statement has such a sign)
+            TokenKind::Number(number) if !are_words && (*number < -32768 || *number > 65535) => {
+                text.push('?')?;
+            }
             TokenKind::Number(number) => {
                 let (low, high) = halves_of(*number, are_words);
                 write!(text, " {low}, {high}")?;
@@ -67,21 +71,34 @@ fn push_statement(
     }
 }
 
-/// A character in single quotes with which a text begins, and its number.
+/// The number of the character that an escape of C stands for.
+fn escaped_number(escape: char) -> Option<u32> {
+    Some(match escape {
+        '0' => 0,
+        'a' => 7,
+        'b' => 8,
+        't' => 9,
+        'n' => 10,
+        'v' => 11,
+        'f' => 12,
+        'r' => 13,
+        '\\' | '\'' | '"' => u32::from(escape),
+        _ => return None,
+    })
+}
+
+/// A character in single quotes with which a text begins, and its number. None if the quotes hold anything else.
 pub fn quoted_number(text: &str) -> Option<(&str, u32)> {
     let inside = text.strip_prefix('\'')?;
-    let (escaped, c) = match inside.strip_prefix('\\') {
-        Some(after) => (true, after.chars().next()?),
-        None => (false, inside.chars().next()?),
+    let (number, len) = match inside.strip_prefix('\\') {
+        Some(after) => (escaped_number(after.chars().next()?)?, 4usize),
+        None => {
+            let c = inside.chars().next()?;
+            (u32::from(c), c.len_utf8().saturating_add(2))
+        }
     };
-    let number = match (escaped, c) {
-        (true, 'n') => 10,
-        (true, 't') => 9,
-        (true, '0') => 0,
-        (_, c) => u32::from(c),
-    };
-    let len = c.len_utf8().saturating_add(if escaped { 3 } else { 2 });
-    Some((text.get(..len)?, number))
+    let quoted = text.get(..len)?;
+    (quoted.len() > 2 && quoted.ends_with('\'')).then_some((quoted, number))
 }
 
 /// Adds some code with a number for each character in single quotes.

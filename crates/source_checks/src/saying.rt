@@ -78,24 +78,6 @@ fn too_large_advice(alloc: Global) -> Result<String, AllocError> {
     )
 }
 
-/// Whether a line ends with a brace, outside comments and strings, as no line of assembly language does.
-fn ends_with_brace(line: &str) -> bool {
-    let code = line.split('#').next().unwrap_or("").trim_ascii_end();
-    !code.contains('"') && (code.ends_with('{') || code.ends_with('}'))
-}
-
-/// Whether a source is one of C.
-pub fn is_c(source: &str) -> bool {
-    source.lines().any(ends_with_brace)
-}
-
-fn c_advice(alloc: Global) -> Result<String, AllocError> {
-    String::from_str(
-        alloc,
-        "this is C; a compiler makes an image of it, as examples/c/build.sh does",
-    )
-}
-
 /// What is said of a fault at a place.
 pub fn said_of(
     alloc: Global,
@@ -121,12 +103,8 @@ pub fn named_advice(
     fault: AsmFault,
 ) -> Result<String, AllocError> {
     let why = fault.why;
-    let said = if why == Cause::Syntax && is_c(source.text) {
-        c_advice(alloc)?
-    } else {
-        let place = place_in(source.line(fault.line), fault.column);
-        said_of(alloc, source, why, &place)?
-    };
+    let place = place_in(source.line(fault.line), fault.column);
+    let said = said_of(alloc, source, why, &place)?;
     format!(in alloc; "{why}: {said}")
 }
 

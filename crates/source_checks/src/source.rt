@@ -1,4 +1,7 @@
 //! A source's lines and labels.
+ghost use Rattle.std.specs.Prelude.{◌≡◌, ◌-◌, [], get_or, IfOk};
+ghost use Rattle.source_checks.specs.Lines.{lines_of, texts};
+
 use crate::nearest::near;
 use crate::place::{first_of, label_of, name_of, without_comment};
 use std::alloc::{AllocError, Global};
@@ -12,31 +15,38 @@ pub struct Source<'a> {
     numbers: Vec<usize>,
 }
 
-impl<'a> Source<'a> {
-    pub fn of(alloc: Global, text: &'a str) -> Result<Source<'a>, AllocError> {
-        let mut source = Source {
-            text,
-            lines: Vec::new(alloc),
-            labels: Vec::new(alloc),
-            numbers: Vec::new(alloc),
-        };
-        for line in text.split('\n') {
-            source.push(line)?;
-        }
-        Ok(source)
-    }
+/// The lines of a text: what stands between its line feeds.
+fn lines_of<'a>(alloc: Global, text: &'a str) -> Result<Vec<&'a str>, AllocError>
+    ensures { IfOk result (λ lines. texts lines.items ≡ lines_of text.now) }
+{
+    text.split('\n').collect(alloc)
+}
 
-    fn push(&mut self, line: &'a str) -> Result<(), AllocError> {
-        self.lines.push(line)?;
-        if let (Some(name), _) = label_of(line) {
-            self.labels.push(name)?;
-            self.numbers.push(self.lines.len())?;
+impl<'a> Source<'a> {
+    pub fn of(alloc: Global, text: &'a str) -> Result<Source<'a>, AllocError>
+        ensures { IfOk result (λ source. texts source.lines.items ≡ lines_of text.now) }
+    {
+        let lines = lines_of(alloc, text)?;
+        let mut labels = Vec::new(alloc);
+        let mut numbers = Vec::new(alloc);
+        for (before, line) in lines.iter().enumerate() {
+            if let (Some(name), _) = label_of(line) {
+                labels.push(name)?;
+                numbers.push(before.saturating_add(1))?;
+            }
         }
-        Ok(())
+        Ok(Source {
+            text,
+            lines,
+            labels,
+            numbers,
+        })
     }
 
     /// The line of this number, from 1. Empty where there is none.
-    pub fn line(&self, number: usize) -> &'a str {
+    pub fn line(&self, number: usize) -> &'a str
+        ensures { result.now ≡ get_or (texts self.now.lines.items) (number - 1) [] }
+    {
         self.lines
             .get(number.saturating_sub(1))
             .copied()

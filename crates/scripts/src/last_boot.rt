@@ -1,27 +1,26 @@
-//! `Start`: boots a script again and again on one disk, as for the runs of a cone.
+//! `LastBoot`: boots a script again and again on one disk, as for the runs of a cone.
 ghost use Rattle.std.specs.Prelude.{◌≡◌, true, IfOk, IfSome};
 ghost use Rattle.disk_model.specs.Storage.{is_quiet};
 
+use crate::launch::Launch;
 use crate::playing::Visitor;
-use crate::setup::Setup;
 use faults::Fault;
 use kernel::{Core, SimDisk};
 use std::alloc::{AllocError, Global};
-use std::rt::Files;
 
-/// What a script sets up, and the disk of its last boot, None for the first one's. A core can be booted on this disk any number of
-/// times.
-pub struct Start<'a, R> {
-    rt: &'a R,
-    setup: &'a mut Setup,
+/// A launch, and the disk of its last boot, None for the first one's. It boots on this disk any number of times. As a visitor it plays a
+/// script up to its last boot, and does nothing beside.
+pub struct LastBoot<'a> {
+    pub alloc: Global,
+    launch: &'a Launch,
     left: Option<SimDisk>,
 }
 
-impl<R> Drop for Start<'_, R> {
+impl Drop for LastBoot<'_> {
     fn drop(self) {
-        let Start {
-            rt: _,
-            setup: _,
+        let LastBoot {
+            alloc: _,
+            launch: _,
             left: _left,
         } = self;
     }
@@ -37,29 +36,23 @@ fn copy_of(left: &Option<SimDisk>) -> Result<Option<SimDisk>, AllocError>
     }
 }
 
-impl<'a, R: Files + AllocGlobal> Start<'a, R> {
+impl<'a> LastBoot<'a> {
     /// Before the first boot.
-    pub fn new(rt: &'a R, setup: &'a mut Setup) -> Start<'a, R> {
-        Start {
-            rt,
-            setup,
+    pub fn new(alloc: Global, launch: &'a Launch) -> LastBoot<'a> {
+        LastBoot {
+            alloc,
+            launch,
             left: None,
         }
     }
 
-    pub fn alloc(&self) -> Global {
-        self.rt.alloc()
-    }
-
     /// Boots, on a copy of the disk of the last boot.
-    pub fn boot(&mut self) -> Result<Core, Fault> {
-        let left = copy_of(&self.left)?;
-        self.setup.boot(self.rt, left)
+    pub fn boot(&self) -> Result<Core, Fault> {
+        self.launch.boot(self.alloc, copy_of(&self.left)?)
     }
 }
 
-/// The visitor that plays a script up to its last boot, and does nothing beside.
-impl<R: Files + AllocGlobal> Visitor for Start<'_, R> {
+impl Visitor for LastBoot<'_> {
     type Fault = Fault;
 
     fn crash(&mut self, core: Core, fill: &[u8]) -> Result<Core, Fault> {
