@@ -1,9 +1,10 @@
 //! What commands there are.
 use crate::aids::Aids;
+use crate::verbs::{VERBS, Verb};
 use std::io;
 use std::io::Write;
 
-/// The commands of each session.
+/// The commands of a session without aids.
 const COMMANDS: &str = "  step [N]        does N instructions, or one
   run             goes on to a breakpoint, a trap, or the end
   rewind N        goes back to the state after N instructions
@@ -16,21 +17,24 @@ const COMMANDS: &str = "  step [N]        does N instructions, or one
   quit            ends
 ";
 
-/// That of a session with aids alone.
-const AIDED: &str = "  show ADDR N     prints N bytes from an address on\n";
+/// What the words after a command are.
+const WORDS: &str =
+    "ADDR: eight hexadecimal digits, up to eight after 0x, LABEL or LABEL+N. PLACE: ADDR or a register.
+N: decimal, or hexadecimal after 0x. A command may be shortened as long as one name alone begins so.
+";
 
-/// That of a session with a source alone.
-const SOURCED: &str =
-    "  print LABEL     prints the address of a label; an ADDR may be a label too\n";
+/// Prints what a command does.
+pub fn print_help_of<O: Write>(verb: Verb, out: &mut O) -> io::Result<()> {
+    out.write_all(verb.help().as_bytes())
+}
 
 /// Prints the commands of a session, a line each.
 pub fn print_help<O: Write>(aids: &Aids, out: &mut O) -> io::Result<()> {
-    out.write_all(COMMANDS.as_bytes())?;
-    if aids.some() {
-        out.write_all(AIDED.as_bytes())?;
+    if !aids.some() {
+        return out.write_all(COMMANDS.as_bytes());
     }
-    if aids.source.is_some() {
-        out.write_all(SOURCED.as_bytes())?;
+    for verb in &VERBS {
+        print_help_of(*verb, out)?;
     }
-    Ok(())
+    out.write_all(WORDS.as_bytes())
 }

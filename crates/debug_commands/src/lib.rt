@@ -4,8 +4,12 @@
 mod aids;
 mod changes;
 mod command;
+mod held;
 mod help;
+mod labelled;
+mod listing;
 mod moving;
+mod places;
 mod quoted;
 mod refusal;
 mod registers;
@@ -13,6 +17,8 @@ mod session;
 mod showing;
 mod standing;
 mod values;
+mod verbs;
 mod writable;
 
+pub use aids::Source;
 pub use session::debug;

@@ -1,15 +1,16 @@
 //! Sources, read beside an image.
-use asm_statements::{split_label, text_at};
-use asm_text::{Line, Token, lines};
+use crate::labels::{Label, Labels};
+use asm_text::{Line, lines};
 use assembler::{AsmFault, Listing, assemble};
 use machine_model::Image;
 use std::alloc::{AllocError, Global};
 
-/// A source, and where the words of its text stand.
+/// A source, where the words of its text are, and its labels.
 pub struct SourceLines {
     text: String,
     lines: Vec<Line>,
     listing: Listing,
+    labels: Labels,
 }
 
 impl Drop for SourceLines {
@@ -18,37 +19,9 @@ impl Drop for SourceLines {
             text: _text,
             lines: _lines,
             listing: _listing,
+            labels: _labels,
         } = self;
     }
-}
-
-/// Whether a line's statement, after its label, is this directive.
-fn is_directive(source: &[u8], tokens: &[Token], directive: &[u8]) -> bool {
-    match tokens {
-        [first, ..] => text_at(source, first.start, first.end) == directive,
-        [] => false,
-    }
-}
-
-/// The number of the line that has a label in text; None where no label there has this name.
-fn line_of(source: &[u8], lines: &[Line], name: &[u8]) -> Option<usize> {
-    let mut in_data = false;
-    for line in lines {
-        let Ok((label, rest)) = split_label(source, line.tokens.as_slice()) else {
-            return None;
-        };
-        if let Some(label) = label {
-            if text_at(source, label.start, label.end) == name {
-                return if in_data { None } else { Some(line.number) };
-            }
-        }
-        if is_directive(source, rest, b".data".as_slice()) {
-            in_data = true;
-        } else if is_directive(source, rest, b".text".as_slice()) {
-            in_data = false;
-        }
-    }
-    None
 }
 
 /// Whether two images are the same, by the bytes of their files.
@@ -70,10 +43,12 @@ impl SourceLines {
             return Ok(None);
         }
         let lines = lines(alloc, text.as_str())?;
+        let labels = Labels::read(alloc, text.as_str().as_bytes(), &lines, image)?;
         Ok(Some(SourceLines {
             text,
             lines,
             listing,
+            labels,
         }))
     }
 
@@ -90,14 +65,45 @@ impl SourceLines {
         Some((row.line, text.trim_ascii()))
     }
 
-    /// The address of the first word at a label or after it. None where no label of the text has this name, or no word comes after.
-    pub fn address_of(&self, label: &str) -> Option<u32> {
-        let number = line_of(
-            self.text.as_bytes(),
-            self.lines.as_slice(),
-            label.as_bytes(),
-        )?;
+    /// The number of the line of the word at an address.
+    pub fn number_at(&self, address: u32) -> Option<usize> {
+        let (number, _) = self.line_at(address)?;
+        Some(number)
+    }
+
+    /// The text of a line, with the blanks before it. None past the last line.
+    pub fn line(&self, number: usize) -> Option<&str> {
+        let line = self.lines.get(number.checked_sub(1)?)?;
+        self.text.as_str().get(line.start..line.end)
+    }
+
+    /// The line from which on a word of text is found, and the word's address: that of a line, or else of the next one with a word.
+    pub fn word_from(&self, number: usize) -> Option<(usize, u32)> {
         let row = self.listing.rows().iter().find(|row| row.line >= number)?;
-        Some(row.address)
+        Some((row.line, row.address))
+    }
+
+    /// The label of a name.
+    pub fn label(&self, name: &str) -> Option<Label> {
+        self.labels
+            .named(self.text.as_str().as_bytes(), name.as_bytes())
+    }
+
+    /// The number of the line of a label.
+    pub fn line_of_label(&self, name: &str) -> Option<usize> {
+        let label = self.label(name)?;
+        let line = self
+            .lines
+            .iter()
+            .find(|line| line.start <= label.start && label.start < line.end)?;
+        Some(line.number)
+    }
+
+    /// The name of the nearest label at an address or before it, and how far the address is beyond it. None where the image has no
+    /// byte there, or no label comes before.
+    pub fn label_before(&self, address: u32) -> Option<(&str, u32)> {
+        let (label, offset) = self.labels.before(address)?;
+        let name = self.text.as_str().get(label.start..label.end)?;
+        Some((name, offset))
     }
 }

@@ -19,6 +19,8 @@ pub enum Kind {
 #[derive(Clone, Copy)]
 pub struct Symbol<'a> {
     pub name: &'a [u8],
+    /// Where its name begins in the source.
+    pub start: usize,
     pub in_data: bool,
     /// How far it is from the beginning of its section, in bytes.
     pub offset: u32,
@@ -42,6 +44,7 @@ fn symbol_at<'a>(source: &'a [u8], label: Label, position: Position) -> Symbol<'
     let spot = position.spot();
     Symbol {
         name: text_at(source, label.start, label.end),
+        start: label.start,
         in_data: spot.in_data,
         offset: if spot.in_data {
             spot.offset

@@ -1,8 +1,7 @@
 //! The command `debug`: an image is debugged with a trace, or with `--live` a process, whose calls a kernel answers.
 use crate::fault::of_session;
 use command_line::LiveOptions;
-use debug_commands::debug;
-use debug_info::SourceLines;
+use debug_commands::{Source, debug};
 use exec_files::{Names, Places};
 use faults::{Fault, Refusal};
 use host_files::{image_in, replies_in, source_lines_in};
@@ -154,16 +153,31 @@ pub fn debug_file<R: Files + AllocGlobal, I: Read, O: Write>(
 ) -> Result<(), Fault> {
     let image = image_in(rt, image)?;
     let origin = Origin::Trace(replies_in(rt, trace)?);
-    let lines = source_lines_in(rt, source, &image)?;
-    debug(rt.alloc(), image, origin, lines, input, out).map_err(of_session)
+    let source = given_source(rt, source, &image)?;
+    debug(rt.alloc(), image, origin, source, input, out).map_err(of_session)
 }
 
-/// The lines of the source that a program was made of, if it was.
-fn lines_of(places: Option<Places>) -> Option<SourceLines> {
-    let Places { path: _path, names } = places?;
+/// The source that a program was made of, if it was.
+fn source_of(places: Option<Places>) -> Option<Source> {
+    let Places { path, names } = places?;
     match names {
-        Names::Source(lines) => Some(lines),
+        Names::Source(lines) => Some(Source { path, lines }),
         Names::Executable { .. } => None,
+    }
+}
+
+/// The source at a path, if one is given. Refused is one that assembles to another image.
+fn given_source<R: Files + AllocGlobal>(
+    rt: &R,
+    path: Option<&str>,
+    image: &Image,
+) -> Result<Option<Source>, Fault> {
+    match (source_lines_in(rt, path, image)?, path) {
+        (Some(lines), Some(path)) => {
+            let path = String::from_str(rt.alloc(), path)?;
+            Ok(Some(Source { path, lines }))
+        }
+        _ => Ok(None),
     }
 }
 
@@ -181,9 +195,9 @@ pub fn debug_live<R: Files + AllocGlobal, I: Read, O: Write>(
         places,
         origin,
     } = process_in(rt, options, &mut Input::<I>::none())?;
-    let lines = match source_lines_in(rt, options.source, &image)? {
-        Some(lines) => Some(lines),
-        None => lines_of(places),
+    let source = match given_source(rt, options.source, &image)? {
+        Some(source) => Some(source),
+        None => source_of(places),
     };
-    debug(rt.alloc(), image, origin, lines, input, out).map_err(of_session)
+    debug(rt.alloc(), image, origin, source, input, out).map_err(of_session)
 }

@@ -39,7 +39,7 @@ fn told_of(stop: Stop, is_step: bool) -> Told {
     match stop {
         Stop::Break(_) if is_step => Told::Done,
         Stop::Break(_) => Told::Break,
-        Stop::Done => Told::Done,
+        Stop::Done | Stop::Change => Told::Done,
         Stop::Watch(watch) => Told::Watch(watch),
         Stop::Trap(cause) => Told::Trap(cause),
         Stop::Begin => Told::Begin,

@@ -1,10 +1,14 @@
 //! `Timeline::ahead`: moves a program on, up to a breakpoint, a watch, or a call that has no reply.
+use crate::changes::run_to_change;
 use crate::fault::SessionFault;
 use crate::stop::{End, Stop};
 use crate::timeline::Timeline;
 use debugger::{MOST_INSTRUCTIONS, Stopped, Watch};
 use kernel_model::Refused;
 use recorder::Recorded;
+
+/// How many instructions a part of the way on has at most while locations are followed.
+const FOLLOWED: u32 = 1 << 16;
 
 /// How a program goes on.
 #[derive(Clone, Copy)]
@@ -86,12 +90,18 @@ impl Timeline {
 
     /// Runs on.
     fn run(&mut self, way: Way) -> Result<After, SessionFault> {
-        let stopped = if way.stops {
-            self.debugger.run_to_break(way.most)?
+        let stopped = if !way.stops {
+            Some(self.debugger.run(way.most)?)
+        } else if self.followed.is_empty() {
+            Some(self.debugger.run_to_break(way.most)?)
         } else {
-            self.debugger.run(way.most)?
+            let most = way.most.min(u64::from(FOLLOWED)) as u32;
+            run_to_change(self.alloc, &mut self.debugger, &self.followed, most)?
         };
         self.top = self.top.max(self.count());
+        let Some(stopped) = stopped else {
+            return Ok(After::Stop(Stop::Change));
+        };
         match stopped {
             Stopped::Break(number) => Ok(After::Stop(Stop::Break(number))),
             Stopped::Trap(cause) => Ok(After::Stop(Stop::Trap(cause))),

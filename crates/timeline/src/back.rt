@@ -1,4 +1,5 @@
-//! `Timeline::back` and `step_back`: move a program back, to a breakpoint or a watch, or by one instruction.
+//! `Timeline::back`, `reverse` and `step_back`: move a program back, to a breakpoint or a watch, or by one instruction.
+use crate::changes::{back_by, last_change};
 use crate::fault::SessionFault;
 use crate::stop::Stop;
 use crate::timeline::Timeline;
@@ -99,6 +100,37 @@ impl Timeline {
             self.back_watched()
         } else {
             self.back_unwatched()
+        }
+    }
+
+    /// The count right after the last instruction that changed what is followed, below the present count; 0 where none did. The
+    /// machine stays.
+    fn after_last_change(&mut self) -> Result<u64, SessionFault> {
+        let now = self.count();
+        if self.followed.is_empty() {
+            return Ok(0);
+        }
+        back_by(&mut self.debugger, 1)?;
+        let found = last_change(self.alloc, &mut self.debugger, &self.followed)?;
+        self.forward(now)?;
+        Ok(found.map_or(0, |count| count.saturating_add(1)))
+    }
+
+    /// Goes on to a count that was reached before, past breakpoints.
+    pub fn forward(&mut self, count: u64) -> Result<(), SessionFault> {
+        let rest = count.saturating_sub(self.count());
+        let _ = self.debugger.run(rest)?;
+        Ok(())
+    }
+
+    /// Goes back to the greatest count below at which a breakpoint stands, or right after an instruction that changed what is
+    /// followed; else to the first state.
+    pub fn reverse(&mut self) -> Result<Stop, SessionFault> {
+        let after = self.after_last_change()?;
+        match self.debugger.back_to(after)? {
+            Some(number) => Ok(Stop::Break(number)),
+            None if after > 0 => Ok(Stop::Change),
+            None => Ok(Stop::Begin),
         }
     }
 }

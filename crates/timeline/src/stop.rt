@@ -54,6 +54,8 @@ pub enum Stop {
     Break(usize),
     /// An instruction or a reply meets a watch. The machine stands before it on the way on, and after it on the way back.
     Watch(Watch),
+    /// The last instruction, or its reply, changed a location that is followed. The machine stands after it.
+    Change,
     /// The program stands at a trap.
     Trap(Cause),
     /// The program stands at its first state.

@@ -1,6 +1,7 @@
 //! `Timeline`: a program's run, forwards and back.
 use crate::fault::SessionFault;
 use crate::live::LiveKernel;
+use crate::location::Location;
 use debugger::{Debugger, Image, Machine, Reply, Watch};
 use recorder::Recorder;
 use std::alloc::{AllocError, Global};
@@ -18,11 +19,16 @@ pub enum Origin {
 /// A program's run, forwards and back. The debugger gets each reply only at the call that takes it, so that each call is seen.
 #[derive(Drop)]
 pub struct Timeline {
+    pub(crate) alloc: Global,
     /// The program at one of its states, with its breakpoints. Its own calls go back; `ahead` goes on.
     pub debugger: Debugger,
     /// The kernel that answers, if one does.
     pub live: Option<LiveKernel>,
     pub(crate) watches: Vec<Watch>,
+    /// What is followed: a run stops after an instruction that changes it.
+    pub(crate) followed: Vec<Location>,
+    /// The number of each location that is followed.
+    pub(crate) numbers: Vec<usize>,
     /// Replies that no call got yet.
     pub(crate) replies: VecDeque<Reply>,
     /// The count at the call that got a reply last.
@@ -53,9 +59,12 @@ impl Timeline {
             }
         };
         Ok(Timeline {
+            alloc,
             debugger: Debugger::new(alloc, image, Vec::new(alloc))?,
             live,
             watches: Vec::new(alloc),
+            followed: Vec::new(alloc),
+            numbers: Vec::new(alloc),
             replies,
             answered: None,
             top: 0,

@@ -1,0 +1,3 @@
+-- The proofs.
+pub mod Changing
+pub mod Holding

@@ -1,0 +1,3 @@
+-- The definitions.
+pub mod Locations
+pub mod Changes
