@@ -11,7 +11,7 @@ use faults::{Fault, Refusal, Role};
 use host_files::{FileKind, disk_or_zeros, kind_of, text_of_file};
 use kernel::{Core, SimDisk};
 use machine_model::Image;
-use scripts::{Launch, Script, Step};
+use scripts::{Launch, Script, Step, TapeList};
 use std::alloc::{AllocError, Global};
 use std::io::Read;
 use std::rt::Files;
@@ -26,29 +26,31 @@ pub struct Subject {
     pub programs: Vec<LoadedProgram>,
 }
 
-/// A launch of these images with these tapes, in order. There are 1 to 8 images, which the command line sees to.
-pub fn launch_of(alloc: Global, images: Vec<Image>, tapes: &[Bytes]) -> Result<Launch, Fault> {
-    let mut launch = None;
-    for image in images {
-        match &mut launch {
-            None => launch = Some(Launch::of_image(alloc, image)?),
-            Some(launch) => {
-                launch.push_image(image)?;
-            }
-        }
-    }
-    let Some(mut launch) = launch else {
-        return Err(Fault::from(Refusal::NoProgram));
-    };
+/// Adds tapes in order, of which an empty one is as good as none.
+fn push_tapes(alloc: Global, list: &mut TapeList, tapes: &[Bytes]) -> Result<(), AllocError> {
     let mut number = 0u32;
     for tape in tapes {
         if !tape.as_slice().is_empty() {
-            launch
-                .tapes
-                .push(Some(number), Some(tape.try_clone(alloc)?))?;
+            list.push(Some(number), Some(tape.try_clone(alloc)?))?;
         }
         number = number.saturating_add(1);
     }
+    Ok(())
+}
+
+/// A launch of these images with these tapes, in order. There are 1 to 8 images, which the command line sees to.
+pub fn launch_of(alloc: Global, images: Vec<Image>, tapes: &[Bytes]) -> Result<Launch, Fault> {
+    let mut images = images;
+    images.reverse();
+    let Some(first) = images.pop() else {
+        return Err(Fault::from(Refusal::NoProgram));
+    };
+    images.reverse();
+    let mut launch = Launch::of_image(alloc, first)?;
+    for image in images {
+        launch.push_image(image)?;
+    }
+    push_tapes(alloc, &mut launch.tapes, tapes)?;
     Ok(launch)
 }
 

@@ -51,7 +51,8 @@ fn deed_of<'a>(
             offset,
             bytes,
         } => {
-            let (at, bytes) = (*offset, bytes.as_slice().len() as u32);
+            let at = *offset;
+            let bytes = u32::try_from(bytes.as_slice().len()).unwrap_or(u32::MAX);
             (name_at(core, *file), ChangeDeed::Write { at, bytes })
         }
         Change::Empty(file) => (name_at(core, *file), ChangeDeed::Empty),
