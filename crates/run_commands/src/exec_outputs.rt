@@ -95,23 +95,29 @@ fn open<'a, R: Files + AllocGlobal>(
     }
 }
 
+/// Empties a file, if it is open.
+fn empty<R: Files + AllocGlobal>(file: &Option<OutputFile<'_, R>>) -> Result<(), Fault> {
+    match file {
+        Some(file) => file.empty(),
+        None => Ok(()),
+    }
+}
+
 impl<'a, R: Files + AllocGlobal> Outputs<'a, R> {
     /// Opens the files that a run is to write. Refused if one leads to a file that the run reads, or to another of them.
     pub fn open(rt: &'a R, options: &ExecOptions<'a>) -> Result<Outputs<'a, R>, Fault> {
         let mut taken = Taken::new(rt, options)?;
-        for path in [options.record, options.picture, options.log] {
-            taken.take(rt, path)?;
-        }
+        taken.take(rt, options.record)?;
+        taken.take(rt, options.picture)?;
+        taken.take(rt, options.log)?;
         let outputs = Outputs {
             record: open(rt, options.record)?,
             picture: open(rt, options.picture)?,
             log: open(rt, options.log)?,
         };
-        for file in [&outputs.record, &outputs.picture, &outputs.log] {
-            if let Some(file) = file {
-                file.empty()?;
-            }
-        }
+        empty(&outputs.record)?;
+        empty(&outputs.picture)?;
+        empty(&outputs.log)?;
         Ok(outputs)
     }
 

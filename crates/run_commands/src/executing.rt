@@ -1,6 +1,6 @@
 //! Runs of programs for people.
 use crate::exec_outputs::Outputs;
-use crate::observing::{Showing, both};
+use crate::observing::{before_call, both, may_show};
 use crate::running::{Booted, keep_end, of_run, run_on};
 use command_line::ExecOptions;
 use exec_records::{Counts, EndedRun, Profile, StepLog, write_json};
@@ -9,8 +9,9 @@ use exec_runs::{Ending, Order, Turns};
 use executor::RunFault;
 use faults::Fault;
 use kernel::Core;
-use run_events::run;
+use run_events::{EventRecord, Observer, step};
 use run_files::{Input, Subject, boot_on, of_disk, subject_in};
+use run_threads::Screen;
 use scripts::Launch;
 use std::fs::File;
 use std::io::{BufWriter, Read, Write};
@@ -49,7 +50,7 @@ impl<'a, R: Files<File = File> + AllocGlobal + Threads + Wait + Sync> Execution<
         }))
     }
 
-    /// Runs a core by turns to its end.
+    /// Runs a core by turns to its end. What a call shows goes out before the line of the call.
     fn run_in_turns<O: Write, E: Write>(
         &mut self,
         core: &mut Core,
@@ -62,18 +63,29 @@ impl<'a, R: Files<File = File> + AllocGlobal + Threads + Wait + Sync> Execution<
             seed: options.seed,
             limit: options.limit,
         });
-        let showing = Showing::new(alloc, out, options.run.numbers);
-        let mut showing = (!options.is_json).then_some(showing);
-        let mut calls = options.tells_calls.then_some(CallTrace::new(alloc, err));
-        let mut told = both(&mut showing, &mut calls);
+        let mut screen = Screen::new(out, options.run.numbers.terminal);
+        let mut calls = CallTrace::new(alloc, err);
         let mut counted = both(&mut self.counts, &mut self.profile);
         let mut kept = both(&mut self.family, log);
         let mut noted = both(&mut counted, &mut kept);
-        let mut all = both(&mut told, &mut noted);
-        match run(alloc, core, &mut turns, &mut all)? {
-            Some(why) => Err(of_run(RunFault::from(why))),
-            None => Ok(turns.ending()),
+        for _ in 0..u64::MAX {
+            let Some(event) = turns.next(core) else {
+                break;
+            };
+            let may_show = !options.is_json && may_show(core, event);
+            let before = before_call(alloc, core, event, options.tells_calls)?;
+            let answer = match step(alloc, core, event, &mut noted)? {
+                Ok(answer) => answer,
+                Err(why) => return Err(of_run(RunFault::from(why))),
+            };
+            if may_show {
+                screen.finish(alloc, core).map_err(of_run)?;
+            }
+            if let Some(before) = &before {
+                calls.event(core, &EventRecord::of(core, before, event, answer))?;
+            }
         }
+        Ok(turns.ending())
     }
 
     /// Runs a core to its end.
